@@ -1,0 +1,1 @@
+// Masks, and marks passed through a unifier.

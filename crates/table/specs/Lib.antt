@@ -1,0 +1,3 @@
+-- The mode rules, the rounds, and the least set of rows.
+pub mod Rules
+pub mod Rounds

@@ -1,0 +1,1 @@
+// The mode table: rules, rounds, the least set.

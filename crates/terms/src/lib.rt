@@ -1,0 +1,1 @@
+// Cells, walks, substitutions and unifiers.
