@@ -48,3 +48,39 @@ pub record Atom (predicates functions : List ℕ) (t : Term) : Type 0 where
   pub arity : count arguments ≡ getD predicates predicate 0
   pub keeps : Keepss functions arguments
   pub short : length (enc t) ≤ atomCells
+
+-- one of two, by a test
+abbrev pub pick {ℓ} : {A : Type ℓ} → Bool → A → A → A
+pick true a b = a
+pick false a b = b
+
+-- the first n terms, and those behind them
+abbrev pub takeTerms : ℕ → Terms → Terms
+takeTerms zero ts = nil
+takeTerms (suc n) nil = nil
+takeTerms (suc n) (cons t ts) = cons t (takeTerms n ts)
+
+abbrev pub dropTerms : ℕ → Terms → Terms
+dropTerms zero ts = ts
+dropTerms (suc n) nil = nil
+dropTerms (suc n) (cons t ts) = dropTerms n ts
+
+-- a cell read before the terms behind it: a variable is one term more, a function takes its arguments from them
+abbrev pub before : List ℕ → ℕ → Terms → Terms
+before arities c ts =
+    pick (ltb c firstVariable)
+    (cons (app c (takeTerms (getD arities c 0) ts)) (dropTerms (getD arities c 0) ts))
+    (cons (var (c - firstVariable)) ts)
+
+-- the terms that a run of cells says, read from its end
+abbrev pub termsOf : List ℕ → List ℕ → Terms
+termsOf arities [] = nil
+termsOf arities (c ∷ cs) = before arities c (termsOf arities cs)
+
+-- n whole terms stand at the start of the cells
+pub record Run (arities cells : List ℕ) (n : ℕ) : Type 0 where
+  pub terms : Terms
+  pub rest : List ℕ
+  pub cut : cells ≡ encs terms ++ rest
+  pub keeps : Keepss arities terms
+  pub many : count terms ≡ n
