@@ -3,3 +3,4 @@ pub mod Substs
 pub mod Runs
 pub mod Standing
 pub mod Solutions
+pub mod Steps

@@ -29,7 +29,7 @@ join-nil (cons t ts) = ap (cons t) (join-nil ts)
 
 -- a function cell takes its arguments from the terms behind it
 pub before-function : (arities : List ℕ) (f : ℕ) (ts : Terms) → f < firstVariable
-  → before arities f ts ≡ cons (app f (takeTerms (getD arities f 0) ts)) (dropTerms (getD arities f 0) ts)
+    → before arities f ts ≡ cons (app f (takeTerms (getD arities f 0) ts)) (dropTerms (getD arities f 0) ts)
 before-function arities f ts h = rw (lt-ltb f firstVariable h)
 
 -- a variable cell is one term more
@@ -39,17 +39,17 @@ before-variable arities v ts =
 
 mutual
   pub terms-enc : (arities : List ℕ) (t : Term) (cs : List ℕ) → Keeps arities t
-    → termsOf arities (enc t ++ cs) ≡ cons t (termsOf arities cs)
+      → termsOf arities (enc t ++ cs) ≡ cons t (termsOf arities cs)
   terms-enc arities (var v) cs k = before-variable arities v (termsOf arities cs)
   terms-enc arities (app f ts) cs k =
-    before-function arities f (termsOf arities (encs ts ++ cs)) (k .1)
-    ∙ rw (terms-encs arities ts cs (k .3), take-join ts (termsOf arities cs) (getD arities f 0) (k .2), drop-join ts (termsOf arities cs) (getD arities f 0) (k .2))
+      before-function arities f (termsOf arities (encs ts ++ cs)) (k .1)
+      ∙ rw (terms-encs arities ts cs (k .3), take-join ts (termsOf arities cs) (getD arities f 0) (k .2), drop-join ts (termsOf arities cs) (getD arities f 0) (k .2))
 
   pub terms-encs : (arities : List ℕ) (ts : Terms) (cs : List ℕ) → Keepss arities ts
-    → termsOf arities (encs ts ++ cs) ≡ join ts (termsOf arities cs)
+      → termsOf arities (encs ts ++ cs) ≡ join ts (termsOf arities cs)
   terms-encs arities nil cs k = refl
   terms-encs arities (cons t ts) cs k =
-    rw append-assoc (terms-enc arities t (encs ts ++ cs) (k .0) ∙ ap (cons t) (terms-encs arities ts cs (k .1)))
+      rw append-assoc (terms-enc arities t (encs ts ++ cs) (k .0) ∙ ap (cons t) (terms-encs arities ts cs (k .1)))
 
 -- the terms of a run are those that it was cut by
 pub run-terms : (arities cells : List ℕ) (n : ℕ) (r : Run arities cells n) → takeTerms n (termsOf arities cells) ≡ r .terms
@@ -60,6 +60,6 @@ run-terms arities cells n r =
 pub enc-injective : (arities : List ℕ) (t u : Term) → Keeps arities t → Keeps arities u → enc t ≡ enc u → t ≡ u
 enc-injective arities t u k l e =
     let p : cons t nil ≡ cons u nil =
-      sym (terms-enc arities t [] k) ∙ ap (λ (cs : List ℕ). termsOf arities (cs ++ [])) e ∙ terms-enc arities u [] l
+    sym (terms-enc arities t [] k) ∙ ap (λ (cs : List ℕ). termsOf arities (cs ++ [])) e ∙ terms-enc arities u [] l
     in
     cc

@@ -36,15 +36,16 @@ module _ (σ : Subst) (x : ℕ) (t : Term) (itself : σ x ≡ var x) where
 
   bind-absorbed : (τ : Subst) → sub (sub t σ) τ ≡ τ x → (y : ℕ) → sub (bind y) τ ≡ sub (σ y) τ
   bind-absorbed τ h y =
-    sub-comp (σ y) (put x (sub t σ)) τ ∙ sub-agree (σ y) (comp (put x (sub t σ)) τ) τ (λ z _. put-absorbed τ h z)
+      sub-comp (σ y) (put x (sub t σ)) τ ∙ sub-agree (σ y) (comp (put x (sub t σ)) τ) τ (λ z _. put-absorbed τ h z)
 
   pub bind-solves : (τ : Subst) → Solves bind τ ↔ (Solves σ τ × (τ x ≡ sub t τ))
-  bind-solves τ =
-    ( (λ h.
+  bind-solves τ = (
+    (λ h.
         let v : sub (sub t σ) τ ≡ τ x = ap (λ (u : Term). sub u τ) (sym (put-same x (sub t σ)) ∙ ap (λ (u : Term). sub u (put x (sub t σ))) (sym itself)) ∙ h x in
         let s : Solves σ τ = λ y. sym (bind-absorbed τ v y) ∙ h y in
-        (s, sym v ∙ solves-sub σ τ s t))
-    , (λ h. λ y. bind-absorbed τ (solves-sub σ τ (h .0) t ∙ sym (h .1)) y ∙ h .0 y))
+        (s, sym v ∙ solves-sub σ τ s t)),
+    (λ h. λ y. bind-absorbed τ (solves-sub σ τ (h .0) t ∙ sym (h .1)) y ∙ h .0 y),
+  )
 
 -- how large a term is
 abbrev mutual
@@ -95,22 +96,23 @@ module _ (n : ℕ) (A B : Term) (below : (x : ℕ) → Occ x A → x < n) where
 
   pub unifies-both : (α β : Subst) → Unifies A B α β → sub A (both n α β) ≡ sub moved (both n α β)
   unifies-both α β e =
-    sub-agree A (both n α β) α (λ x o. both-first n α β x (below x o))
-    ∙ e
-    ∙ sym (sub-comp B (λ v. var (n + v)) (both n α β) ∙ sub-agree B (λ v. both n α β (n + v)) β (λ v _. both-second n α β v))
+      sub-agree A (both n α β) α (λ x o. both-first n α β x (below x o))
+      ∙ e
+      ∙ sym (sub-comp B (λ v. var (n + v)) (both n α β) ∙ sub-agree B (λ v. both n α β (n + v)) β (λ v _. both-second n α β v))
 
   -- a store that every unifier solves, and that solves itself, is a most general unifier
   pub solved-most-general : (σ : Subst) → ((τ : Subst) → Solves σ τ ↔ (sub A τ ≡ sub moved τ)) → Solves σ σ
-    → MostGeneral A B σ (λ v. σ (n + v))
+      → MostGeneral A B σ (λ v. σ (n + v))
   solved-most-general σ h self =
-    record {
-      unifies = h σ .0 self ∙ sub-comp B (λ v. var (n + v)) σ;
-      general = λ α β e.
-        let s = h (both n α β) .1 (unifies-both α β e) in
-        ( both n α β
-        , (λ x o. s x ∙ both-first n α β x (below x o))
-        , (λ y o. s (n + y) ∙ both-second n α β y))
-    }
+      record {
+        unifies = h σ .0 self ∙ sub-comp B (λ v. var (n + v)) σ;
+        general = λ α β e.
+            let s = h (both n α β) .1 (unifies-both α β e) in (
+              both n α β,
+              (λ x o. s x ∙ both-first n α β x (below x o)),
+              (λ y o. s (n + y) ∙ both-second n α β y),
+            );
+      }
 
   pub unsolved-apart : ((τ : Subst) → sub A τ ≡ sub moved τ → ⊥) → Apart A B
   unsolved-apart h α β e = h (both n α β) (unifies-both α β e)

@@ -34,19 +34,19 @@ pub record Full (b : Bindings) (σ : Subst) (c : ℕ) : Type 0 where
 -- so does every term, in at most so many steps for each of its cells
 mutual
   pub stands-sub : (b : Bindings) (σ : Subst) (c : ℕ) → Full b σ c → (t : Term)
-    → (d : Stands b t (sub t σ)) × (steps d ≤ length (enc t) * suc (suc c))
+      → (d : Stands b t (sub t σ)) × (steps d ≤ length (enc t) * suc (suc c))
   stands-sub b σ c F (var x) = (F .stands x, rw one-mul (omega (arith, F .few x)))
   stands-sub b σ c F (app f ts) =
-    let r = stand-subs b σ c F ts in
-    (node (r .0), rw suc-mul (omega (arith, r .1)))
+      let r = stand-subs b σ c F ts in
+      (node (r .0), rw suc-mul (omega (arith, r .1)))
 
   pub stand-subs : (b : Bindings) (σ : Subst) (c : ℕ) → Full b σ c → (ts : Terms)
-    → (d : StandAll b ts (subs ts σ)) × (stepsAll d ≤ suc (length (encs ts) * suc (suc c)))
+      → (d : StandAll b ts (subs ts σ)) × (stepsAll d ≤ suc (length (encs ts) * suc (suc c)))
   stand-subs b σ c F nil = (done, omega arith)
   stand-subs b σ c F (cons t ts) =
-    let q = stands-sub b σ c F t in
-    let r = stand-subs b σ c F ts in
-    (more (q .0) (r .0), rw (length-append, add-mul) (omega (arith, q .1, r .1)))
+      let q = stands-sub b σ c F t in
+      let r = stand-subs b σ c F ts in
+      (more (q .0) (r .0), rw (length-append, add-mul) (omega (arith, q .1, r .1)))
 
 -- what a term stands for in full has only unbound variables
 mutual
@@ -67,7 +67,7 @@ unbound-itself b x u (followed {t = t} e d) h = absurd (Option·none-ne-some t (
 
 -- a bound variable stands for what its term stands for, one step further
 pub bound-follows : (b : Bindings) (x : ℕ) (t u : Term) (d : Stands b (var x) u) → b x ≡ some t
-  → (e : Stands b t u) × (steps d ≡ suc (steps e))
+    → (e : Stands b t u) × (steps d ≡ suc (steps e))
 bound-follows b x t u (unbound e) h = absurd (Option·none-ne-some t (sym e ∙ h))
 bound-follows b x t u (followed {t = s} e d) h = go (Option·some-injective s t (sym e ∙ h))
   where
@@ -94,49 +94,49 @@ put-other x v y f = go (ℕ-discrete y x)
 
 -- one more binding: x, unbound before, is bound to t, which stands for v; x does not occur in v
 module _ (b b′ : Bindings) (x : ℕ) (t v : Term) (was : b x ≡ none) (now-bound : b′ x ≡ some t)
-  (elsewhere : (y : ℕ) → (y ≡ x → ⊥) → b′ y ≡ b y) (stood : Stands b t v) (absent : Occ x v → ⊥) where
+    (elsewhere : (y : ℕ) → (y ≡ x → ⊥) → b′ y ≡ b y) (stood : Stands b t v) (absent : Occ x v → ⊥) where
   mutual
     pub stands-still : {s w : Term} (d : Stands b s w) → (Occ x w → ⊥) → (e : Stands b′ s w) × (steps e ≡ steps d)
     stands-still (unbound {x = y} e) h = (unbound (elsewhere y (λ q. h (sym q)) ∙ e), refl)
     stands-still (followed {x = y} {t = r} e d) h =
-      let q = stands-still d h in
-      (followed (elsewhere y (λ z. Option·none-ne-some r (sym was ∙ ap b (sym z) ∙ e)) ∙ e) (q .0), ap suc (q .1))
+        let q = stands-still d h in
+        (followed (elsewhere y (λ z. Option·none-ne-some r (sym was ∙ ap b (sym z) ∙ e)) ∙ e) (q .0), ap suc (q .1))
     stands-still (node ds) h = let q = stand-still ds h in (node (q .0), ap suc (q .1))
 
     pub stand-still : {ss ws : Terms} (d : StandAll b ss ws) → (Occs x ws → ⊥) → (e : StandAll b′ ss ws) × (stepsAll e ≡ stepsAll d)
     stand-still done h = (done, refl)
     stand-still (more d ds) h =
-      let q = stands-still d (λ o. h (inl o)) in
-      let r = stand-still ds (λ o. h (inr o)) in
-      (more (q .0) (r .0), ap₂ _+_ (q .1) (r .1))
+        let q = stands-still d (λ o. h (inl o)) in
+        let r = stand-still ds (λ o. h (inr o)) in
+        (more (q .0) (r .0), ap₂ _+_ (q .1) (r .1))
 
   bound-now : (y : ℕ) → b y ≡ none → Dec (y ≡ x) → (e : Stands b′ (var y) (put x v y)) × (steps e ≤ 1 * suc (steps stood))
   bound-now y e (yes q) =
-    rw (q, put-same x v)
-    (followed now-bound (stands-still stood absent .0), rw one-mul (omega (arith, stands-still stood absent .1)))
+      rw (q, put-same x v)
+      (followed now-bound (stands-still stood absent .0), rw one-mul (omega (arith, stands-still stood absent .1)))
   bound-now y e (no f) = rw (put-other x v y f) (unbound (elsewhere y f ∙ e), rw one-mul (omega arith))
 
   mutual
     pub stands-more : {s w : Term} (d : Stands b s w)
-      → (e : Stands b′ s (sub w (put x v))) × (steps e ≤ steps d * suc (steps stood))
+        → (e : Stands b′ s (sub w (put x v))) × (steps e ≤ steps d * suc (steps stood))
     stands-more (unbound {x = y} e) = bound-now y e (ℕ-discrete y x)
     stands-more (followed {x = y} {t = r} e d) =
-      let q = stands-more d in
-      (followed (elsewhere y (λ z. Option·none-ne-some r (sym was ∙ ap b (sym z) ∙ e)) ∙ e) (q .0), rw suc-mul (omega (arith, q .1)))
+        let q = stands-more d in
+        (followed (elsewhere y (λ z. Option·none-ne-some r (sym was ∙ ap b (sym z) ∙ e)) ∙ e) (q .0), rw suc-mul (omega (arith, q .1)))
     stands-more (node ds) = let q = stand-more ds in (node (q .0), rw suc-mul (omega (arith, q .1)))
 
     pub stand-more : {ss ws : Terms} (d : StandAll b ss ws)
-      → (e : StandAll b′ ss (subs ws (put x v))) × (stepsAll e ≤ stepsAll d * suc (steps stood))
+        → (e : StandAll b′ ss (subs ws (put x v))) × (stepsAll e ≤ stepsAll d * suc (steps stood))
     stand-more done = (done, rw one-mul (omega arith))
     stand-more (more d ds) =
-      let q = stands-more d in
-      let r = stand-more ds in
-      (more (q .0) (r .0), rw add-mul (omega (arith, q .1, r .1)))
+        let q = stands-more d in
+        let r = stand-more ds in
+        (more (q .0) (r .0), rw add-mul (omega (arith, q .1, r .1)))
 
   -- every variable still stands for something
   pub full-more : (σ : Subst) (c : ℕ) → Full b σ c → Full b′ (λ y. sub (σ y) (put x v)) (c * suc (steps stood))
   full-more σ c F =
-    record {
-      stands = λ y. stands-more (F .stands y) .0;
-      few = λ y. le-trans (stands-more (F .stands y) .1) (mul-le-mul-right (suc (steps stood)) (F .few y))
-    }
+      record {
+        stands = λ y. stands-more (F .stands y) .0;
+        few = λ y. le-trans (stands-more (F .stands y) .1) (mul-le-mul-right (suc (steps stood)) (F .few y));
+      }

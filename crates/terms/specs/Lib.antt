@@ -3,3 +3,4 @@ pub mod Term
 pub mod Cells
 pub mod Unifier
 pub mod Store
+pub mod Walk

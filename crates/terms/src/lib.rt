@@ -1,1 +1,3 @@
-// Cells, walks, substitutions and unifiers.
+// Cells, walks, substitutions and unifiers: the only crate that knows how unification works.
+pub mod unify;
+pub mod walk;
