@@ -1,3 +1,8 @@
 -- The encoded program: what it says, its faults, its shapes.
+pub mod Limits
+pub mod Reply
 pub mod Program
+pub mod Reading
+pub mod Atoms
+pub mod Faults
 pub mod Shapes

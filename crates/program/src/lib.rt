@@ -1,1 +1,4 @@
 // The encoded program.
+pub mod cells;
+pub mod limits;
+pub mod reply;

@@ -2,5 +2,6 @@
 pub mod Term
 pub mod Cells
 pub mod Unifier
+pub mod Cursor
 pub mod Store
 pub mod Walk
