@@ -5,3 +5,4 @@ pub mod Variables
 pub mod Space
 pub mod Unify
 pub mod Samples
+pub mod Pairs

@@ -5,6 +5,7 @@ use mathlib.Core.Logic.{_⊎_, inl, inr}
 use mathlib.Core.Option.{Option, none, some}
 use Rattle.terms.specs.Term.{Term, Terms, var, app, nil, cons, sub}
 use Rattle.terms.proofs.Unify.{Unified, unify}
+use Rattle.terms.proofs.Pairs.{Decided, unifier-decided}
 
 abbrev p : Term → Term → Term
 p s t = app 0 (cons s (cons t nil))
@@ -38,3 +39,21 @@ clash-under-binding = refl
 chain-of-bindings : equal (p (var 0) (p (f (var 1)) (var 2))) (p (var 1) (p (var 2) (f a))) ≡ some (p a (p (f a) (f a)))
 unfolding equal
 chain-of-bindings = refl
+
+-- what two atoms become whose variables are kept apart
+abbrev met : (A B : Term) → Decided A B → Option Term
+met A B (inl n) = none
+met A B (inr u) = some (sub A (u .0))
+
+unfoldable meets : Term → Term → Option Term
+unfolding unifier-decided
+meets A B = met A B (unifier-decided A B)
+
+-- "`p(V0,V0)` with goal `p(V0,s(V0))`": apart by the occurs check
+double-apart : meets (p (var 0) (f (var 0))) (p (var 0) (var 0)) ≡ none
+unfolding meets
+double-apart = refl
+
+one-name-twice : meets (p a (var 0)) (p (var 0) b) ≡ some (p a b)
+unfolding meets
+one-name-twice = refl

@@ -39,7 +39,14 @@ unfoldable mutual
   occs-decided x nil = no (λ o. o)
   occs-decided x (cons t ts) = either-decided (occ-decided x t) (occs-decided x ts)
 
--- whether all variables have a decided property
+-- some variable of the term has the property
+abbrev pub Some : (ℕ → Type 0) → Term → Type 0
+Some P t = (x : ℕ) × Occ x t × P x
+
+abbrev pub Somes : (ℕ → Type 0) → Terms → Type 0
+Somes P ts = (x : ℕ) × Occs x ts × P x
+
+-- whether all variables have a decided property, and whether some has it
 module _ (P : ℕ → Type 0) (decide : (x : ℕ) → Dec (P x)) where
   unfoldable mutual
     unfolding both-decided
@@ -52,29 +59,22 @@ module _ (P : ℕ → Type 0) (decide : (x : ℕ) → Dec (P x)) where
     alls-decided nil = yes tt
     alls-decided (cons t ts) = both-decided (all-decided t) (alls-decided ts)
 
-  -- whether some variable has it
-  abbrev pub Some : Term → Type 0
-  Some t = (x : ℕ) × Occ x t × P x
-
-  abbrev pub Somes : Terms → Type 0
-  Somes ts = (x : ℕ) × Occs x ts × P x
-
-  pub somes-or : (t : Term) (ts : Terms) → Some t ⊎ Somes ts → Somes (cons t ts)
+  pub somes-or : (t : Term) (ts : Terms) → Some P t ⊎ Somes P ts → Somes P (cons t ts)
   somes-or t ts (inl h) = (h .0, inl (h .1), h .2)
   somes-or t ts (inr h) = (h .0, inr (h .1), h .2)
 
-  pub or-somes : (t : Term) (ts : Terms) (x : ℕ) → Occ x t ⊎ Occs x ts → P x → Some t ⊎ Somes ts
+  pub or-somes : (t : Term) (ts : Terms) (x : ℕ) → Occ x t ⊎ Occs x ts → P x → Some P t ⊎ Somes P ts
   or-somes t ts x (inl o) h = inl (x, o, h)
   or-somes t ts x (inr o) h = inr (x, o, h)
 
   unfoldable mutual
     unfolding either-decided decided-for somes-or
 
-    pub some-decided : (t : Term) → Dec (Some t)
+    pub some-decided : (t : Term) → Dec (Some P t)
     some-decided (var y) = decided-for (λ h. (y, refl, h)) (λ h. subst P (h .1) (h .2)) (decide y)
     some-decided (app f ts) = somes-decided ts
 
-    pub somes-decided : (ts : Terms) → Dec (Somes ts)
+    pub somes-decided : (ts : Terms) → Dec (Somes P ts)
     somes-decided nil = no (λ h. h .1)
     somes-decided (cons t ts) = decided-for (somes-or t ts) (λ h. or-somes t ts (h .0) (h .1) (h .2)) (either-decided (some-decided t) (somes-decided ts))
 
