@@ -6,3 +6,4 @@ pub mod Space
 pub mod Unify
 pub mod Samples
 pub mod Pairs
+pub mod Renaming
