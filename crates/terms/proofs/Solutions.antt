@@ -1,118 +1,96 @@
--- Solutions of a store of bindings: what one more binding, one pair of terms and the whole of two atoms do to them.
-use Prim.Native.Nat.{ℕ, zero, suc, _+_, _-_, _≤_, _<_}
-use mathlib.Core.Path.{_≡_, refl, sym, ap, ap₂, subst, _∙_, fun-ext}
-use mathlib.Core.Logic.{_⊎_, inl, inr, _↔_}
-use mathlib.Core.Option.{Option, none, some}
-use mathlib.Core.List.{List}
-use native.Mathlib.Decide.{ℕ-discrete, decLt}
+-- Solution sets of equations between terms, and their strong most general solutions: one that every other solution absorbs.
+-- Shown: a variable bound to a term without it, the occurs check, and one equation after another.
+use Prim.Native.Nat.{ℕ, zero, suc, _+_, _≤_, _<_}
 use native.Mathlib.Omega.{arith}
-use Rattle.terms.specs.Term.{Term, Terms, var, app, nil, cons, Subst, sub, subs, comp, Occ, Occs, All}
-use Rattle.terms.specs.Unifier.{Unifies, Apart, MostGeneral}
-use Rattle.terms.proofs.Substs.{sub-comp, subs-comp, sub-agree, sub-var, occ-sub}
-use Rattle.terms.proofs.Standing.{put, put-same, put-other}
+use native.Mathlib.Decide.{ℕ-discrete}
+use mathlib.Core.Path.{_≡_, refl, sym, ap, _∙_, fun-ext, subst}
+use mathlib.Core.Logic.{_⊎_, inl, inr}
+use Rattle.terms.specs.Term.{Term, Terms, var, app, nil, cons, Subst, sub, subs, comp, Occ, Occs}
+use Rattle.terms.proofs.Substs.{sub-comp, sub-var, sub-agree}
 
--- τ is a solution of σ: it is σ followed by τ
-abbrev pub Solves : Subst → Subst → Type 0
-Solves σ τ = (x : ℕ) → sub (σ x) τ ≡ τ x
+-- σ is in the set, and σ followed by any member of the set is that member
+pub record Solution (U : Subst → Type 0) (σ : Subst) : Type 0 where
+  pub solves : U σ
+  pub absorbs : (τ : Subst) → U τ → comp σ τ ≡ τ
 
--- under a solution a term is what it stands for
-pub solves-sub : (σ τ : Subst) → Solves σ τ → (t : Term) → sub (sub t σ) τ ≡ sub t τ
-solves-sub σ τ h t = sub-comp t σ τ ∙ sub-agree t (comp σ τ) τ (λ x _. h x)
+-- composition is associative
+pub comp-comp : (σ ρ τ : Subst) → comp (comp σ ρ) τ ≡ comp σ (comp ρ τ)
+comp-comp σ ρ τ = fun-ext (λ x. sub-comp (σ x) ρ τ)
 
-pub solves-subs : (σ τ : Subst) → Solves σ τ → (ts : Terms) → subs (subs ts σ) τ ≡ subs ts τ
-solves-subs σ τ h ts = subs-comp ts σ τ ∙ ap (subs ts) (fun-ext h)
+-- where nothing is asked, every variable stands for itself
+pub solution-of-all : {U : Subst → Type 0} → ((τ : Subst) → U τ) → Solution U var
+solution-of-all all = record { solves = all var; absorbs = λ τ u. refl }
 
--- the solutions of a store with one more binding are its solutions that agree with the binding
-module _ (σ : Subst) (x : ℕ) (t : Term) (itself : σ x ≡ var x) where
-  abbrev pub bind : Subst
-  bind y = sub (σ y) (put x (sub t σ))
+-- a set with the same members has the same solutions
+pub solution-for : {U U′ : Subst → Type 0} {σ : Subst} → ((τ : Subst) → U τ → U′ τ) → ((τ : Subst) → U′ τ → U τ) → Solution U σ → Solution U′ σ
+solution-for {U} {U′} {σ} to from s = record { solves = to σ (s .solves); absorbs = λ τ u. s .absorbs τ (from τ u) }
 
-  put-absorbed : (τ : Subst) → sub (sub t σ) τ ≡ τ x → (y : ℕ) → sub (put x (sub t σ) y) τ ≡ τ y
-  put-absorbed τ h y = go (ℕ-discrete y x)
-    where
-      go : Dec (y ≡ x) → sub (put x (sub t σ) y) τ ≡ τ y
-      go (yes e) = rw (e, put-same x (sub t σ)) h
-      go (no f) = rw (put-other x (sub t σ) y f) refl
+-- one equation after another: the second is solved under the first one's solution
+pub solution-then : {U W : Subst → Type 0} {σ ρ : Subst} → ((τ θ : Subst) → U τ → U (comp τ θ))
+    → Solution U σ → Solution (λ τ. W (comp σ τ)) ρ → Solution (λ τ. U τ × W τ) (comp σ ρ)
+solution-then {U} {W} {σ} {ρ} under s r =
+    record {
+      solves = (under σ ρ (s .solves), r .solves);
+      absorbs = λ τ u.
+          let e : comp σ τ ≡ τ = s .absorbs τ (u .0) in
+          comp-comp σ ρ τ ∙ ap (comp σ) (r .absorbs τ (subst W (sym e) (u .1))) ∙ e;
+    }
 
-  bind-absorbed : (τ : Subst) → sub (sub t σ) τ ≡ τ x → (y : ℕ) → sub (bind y) τ ≡ sub (σ y) τ
-  bind-absorbed τ h y =
-      sub-comp (σ y) (put x (sub t σ)) τ ∙ sub-agree (σ y) (comp (put x (sub t σ)) τ) τ (λ z _. put-absorbed τ h z)
+-- t for the variable x, the others as they are
+abbrev pub instead : {x v : ℕ} → Dec (v ≡ x) → Term → Term
+instead {x} {v} (yes e) t = t
+instead {x} {v} (no n) t = var v
 
-  pub bind-solves : (τ : Subst) → Solves bind τ ↔ (Solves σ τ × (τ x ≡ sub t τ))
-  bind-solves τ = (
-    (λ h.
-        let v : sub (sub t σ) τ ≡ τ x = ap (λ (u : Term). sub u τ) (sym (put-same x (sub t σ)) ∙ ap (λ (u : Term). sub u (put x (sub t σ))) (sym itself)) ∙ h x in
-        let s : Solves σ τ = λ y. sym (bind-absorbed τ v y) ∙ h y in
-        (s, sym v ∙ solves-sub σ τ s t)),
-    (λ h. λ y. bind-absorbed τ (solves-sub σ τ (h .0) t ∙ sym (h .1)) y ∙ h .0 y),
-  )
+abbrev pub bind : ℕ → Term → Subst
+bind x t v = instead (ℕ-discrete v x) t
 
--- how large a term is
+pub bind-same : (x : ℕ) (t : Term) → bind x t x ≡ t
+bind-same x t = at (ℕ-discrete x x)
+  where
+    at : (d : Dec (x ≡ x)) → instead d t ≡ t
+    at (yes e) = refl
+    at (no n) = absurd (n refl)
+
+pub bind-other : (x v : ℕ) (t : Term) → (v ≡ x → ⊥) → bind x t v ≡ var v
+bind-other x v t other = at (ℕ-discrete v x)
+  where
+    at : (d : Dec (v ≡ x)) → instead d t ≡ var v
+    at (yes e) = absurd (other e)
+    at (no n) = refl
+
+-- a variable and a term without it: the variable stands for the term
+pub solution-bind : (x : ℕ) (t : Term) → (Occ x t → ⊥) → Solution (λ τ. τ x ≡ sub t τ) (bind x t)
+solution-bind x t fresh =
+    record {
+      solves = bind-same x t ∙ sym (sub-agree t (bind x t) var (λ v o. bind-other x v t (λ e. fresh (subst (λ (w : ℕ). Occ w t) e o))) ∙ sub-var t);
+      absorbs = λ τ u. fun-ext (λ v. at τ u v (ℕ-discrete v x));
+    }
+  where
+    at : (τ : Subst) → τ x ≡ sub t τ → (v : ℕ) (d : Dec (v ≡ x)) → sub (instead d t) τ ≡ τ v
+    at τ u v (yes e) = sym u ∙ ap τ (sym e)
+    at τ u v (no n) = refl
+
+-- how many symbols and variables
 abbrev mutual
   pub size : Term → ℕ
-  size (var x) = 1
+  size (var x) = zero
   size (app f ts) = suc (sizes ts)
 
   pub sizes : Terms → ℕ
   sizes nil = zero
   sizes (cons t ts) = size t + sizes ts
 
+-- what a variable goes to is no larger than what a term goes to in which it occurs
 mutual
-  pub part-size : (x : ℕ) (t : Term) (τ : Subst) → Occ x t → size (τ x) ≤ size (sub t τ)
-  part-size x (var y) τ o = rw o (omega arith)
-  part-size x (app f ts) τ o = omega (arith, part-sizes x ts τ o)
+  pub size-occ : (τ : Subst) (x : ℕ) (t : Term) → Occ x t → size (τ x) ≤ size (sub t τ)
+  size-occ τ x (var y) o = let e : size (τ x) ≡ size (τ y) = ap (λ z. size (τ z)) o in omega arith
+  size-occ τ x (app f ts) o = let h = sizes-occ τ x ts o in omega arith
 
-  pub part-sizes : (x : ℕ) (ts : Terms) (τ : Subst) → Occs x ts → size (τ x) ≤ sizes (subs ts τ)
-  part-sizes x nil τ o = absurd o
-  part-sizes x (cons t ts) τ (inl o) = omega (arith, part-size x t τ o)
-  part-sizes x (cons t ts) τ (inr o) = omega (arith, part-sizes x ts τ o)
+  pub sizes-occ : (τ : Subst) (x : ℕ) (ts : Terms) → Occs x ts → size (τ x) ≤ sizes (subs ts τ)
+  sizes-occ τ x nil o = absurd o
+  sizes-occ τ x (cons t ts) (inl o) = let h = size-occ τ x t o in omega arith
+  sizes-occ τ x (cons t ts) (inr o) = let h = sizes-occ τ x ts o in omega arith
 
--- "with the occurs check": no substitution makes a variable equal to a larger term that it occurs in
-pub occurs-apart : (x f : ℕ) (ts : Terms) (τ : Subst) → Occs x ts → τ x ≡ sub (app f ts) τ → ⊥
-occurs-apart x f ts τ o e = omega (arith, part-sizes x ts τ o, ap size e)
-
--- a term for each variable of both atoms, those of the second from `second` on
-abbrev pub both : ℕ → Subst → Subst → Subst
-both second α β x = elim (decLt x second) [ yes _ ↦ α x | no _ ↦ β (x - second) ]
-
-pub both-first : (n : ℕ) (α β : Subst) (v : ℕ) → v < n → both n α β v ≡ α v
-both-first n α β v h = go (decLt v n)
-  where
-    go : (d : Dec (v < n)) → elim d as (λ _. Term) [ yes _ ↦ α v | no _ ↦ β (v - n) ] ≡ α v
-    go (yes _) = refl
-    go (no f) = absurd (f h)
-
-pub both-second : (n : ℕ) (α β : Subst) (v : ℕ) → both n α β (n + v) ≡ β v
-both-second n α β v = go (decLt (n + v) n)
-  where
-    go : (d : Dec (n + v < n)) → elim d as (λ _. Term) [ yes _ ↦ α (n + v) | no _ ↦ β (n + v - n) ] ≡ β v
-    go (yes h) = absurd (omega arith)
-    go (no _) = ap β (omega arith)
-
--- two atoms with variables below n, the second's moved up by n: what the solutions of the moved atoms say of the atoms
-module _ (n : ℕ) (A B : Term) (below : (x : ℕ) → Occ x A → x < n) where
-  abbrev pub moved : Term
-  moved = sub B (λ v. var (n + v))
-
-  pub unifies-both : (α β : Subst) → Unifies A B α β → sub A (both n α β) ≡ sub moved (both n α β)
-  unifies-both α β e =
-      sub-agree A (both n α β) α (λ x o. both-first n α β x (below x o))
-      ∙ e
-      ∙ sym (sub-comp B (λ v. var (n + v)) (both n α β) ∙ sub-agree B (λ v. both n α β (n + v)) β (λ v _. both-second n α β v))
-
-  -- a store that every unifier solves, and that solves itself, is a most general unifier
-  pub solved-most-general : (σ : Subst) → ((τ : Subst) → Solves σ τ ↔ (sub A τ ≡ sub moved τ)) → Solves σ σ
-      → MostGeneral A B σ (λ v. σ (n + v))
-  solved-most-general σ h self =
-      record {
-        unifies = h σ .0 self ∙ sub-comp B (λ v. var (n + v)) σ;
-        general = λ α β e.
-            let s = h (both n α β) .1 (unifies-both α β e) in (
-              both n α β,
-              (λ x o. s x ∙ both-first n α β x (below x o)),
-              (λ y o. s (n + y) ∙ both-second n α β y),
-            );
-      }
-
-  pub unsolved-apart : ((τ : Subst) → sub A τ ≡ sub moved τ → ⊥) → Apart A B
-  unsolved-apart h α β e = h (both n α β) (unifies-both α β e)
+-- "with the occurs check": no finite term is a proper part of itself
+pub occurs-check : (x f : ℕ) (ts : Terms) → Occs x ts → (τ : Subst) → τ x ≡ sub (app f ts) τ → ⊥
+occurs-check x f ts o τ e = let h = sizes-occ τ x ts o in let k : size (τ x) ≡ suc (sizes (subs ts τ)) = ap size e in omega arith

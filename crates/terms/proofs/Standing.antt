@@ -9,6 +9,7 @@ use native.Mathlib.Decide.{ℕ-discrete}
 use native.Mathlib.Nat.{mul-le-mul-right, add-mul, suc-mul, one-mul, le-trans}
 use native.Mathlib.Omega.{arith}
 use Rattle.terms.specs.Term.{Term, Terms, var, app, nil, cons, Subst, sub, subs, Occ, Occs}
+use Rattle.terms.proofs.Solutions.{bind, bind-same, bind-other}
 use Rattle.terms.specs.Cells.{enc, encs}
 use Rattle.terms.specs.Store.{Stands, StandAll, unbound, followed, node, done, more}
 
@@ -74,24 +75,6 @@ bound-follows b x t u (followed {t = s} e d) h = go (Option·some-injective s t 
     go : s ≡ t → (e : Stands b t u) × (suc (steps d) ≡ suc (steps e))
     go q = subst (λ (r : Term). (e : Stands b r u) × (suc (steps d) ≡ suc (steps e))) q (d, refl)
 
--- the substitution of v for x alone
-abbrev pub put : ℕ → Term → Subst
-put x v y = elim (ℕ-discrete y x) [ yes _ ↦ v | no _ ↦ var y ]
-
-pub put-same : (x : ℕ) (v : Term) → put x v x ≡ v
-put-same x v = go (ℕ-discrete x x)
-  where
-    go : (d : Dec (x ≡ x)) → elim d as (λ _. Term) [ yes _ ↦ v | no _ ↦ var x ] ≡ v
-    go (yes e) = refl
-    go (no h) = absurd (h refl)
-
-pub put-other : (x : ℕ) (v : Term) (y : ℕ) → (y ≡ x → ⊥) → put x v y ≡ var y
-put-other x v y f = go (ℕ-discrete y x)
-  where
-    go : (d : Dec (y ≡ x)) → elim d as (λ _. Term) [ yes _ ↦ v | no _ ↦ var y ] ≡ var y
-    go (yes e) = absurd (f e)
-    go (no h) = refl
-
 -- one more binding: x, unbound before, is bound to t, which stands for v; x does not occur in v
 module _ (b b′ : Bindings) (x : ℕ) (t v : Term) (was : b x ≡ none) (now-bound : b′ x ≡ some t)
     (elsewhere : (y : ℕ) → (y ≡ x → ⊥) → b′ y ≡ b y) (stood : Stands b t v) (absent : Occ x v → ⊥) where
@@ -110,15 +93,15 @@ module _ (b b′ : Bindings) (x : ℕ) (t v : Term) (was : b x ≡ none) (now-bo
         let r = stand-still ds (λ o. h (inr o)) in
         (more (q .0) (r .0), ap₂ _+_ (q .1) (r .1))
 
-  bound-now : (y : ℕ) → b y ≡ none → Dec (y ≡ x) → (e : Stands b′ (var y) (put x v y)) × (steps e ≤ 1 * suc (steps stood))
+  bound-now : (y : ℕ) → b y ≡ none → Dec (y ≡ x) → (e : Stands b′ (var y) (bind x v y)) × (steps e ≤ 1 * suc (steps stood))
   bound-now y e (yes q) =
-      rw (q, put-same x v)
+      rw (q, bind-same x v)
       (followed now-bound (stands-still stood absent .0), rw one-mul (omega (arith, stands-still stood absent .1)))
-  bound-now y e (no f) = rw (put-other x v y f) (unbound (elsewhere y f ∙ e), rw one-mul (omega arith))
+  bound-now y e (no f) = rw (bind-other x y v f) (unbound (elsewhere y f ∙ e), rw one-mul (omega arith))
 
   mutual
     pub stands-more : {s w : Term} (d : Stands b s w)
-        → (e : Stands b′ s (sub w (put x v))) × (steps e ≤ steps d * suc (steps stood))
+        → (e : Stands b′ s (sub w (bind x v))) × (steps e ≤ steps d * suc (steps stood))
     stands-more (unbound {x = y} e) = bound-now y e (ℕ-discrete y x)
     stands-more (followed {x = y} {t = r} e d) =
         let q = stands-more d in
@@ -126,7 +109,7 @@ module _ (b b′ : Bindings) (x : ℕ) (t v : Term) (was : b x ≡ none) (now-bo
     stands-more (node ds) = let q = stand-more ds in (node (q .0), rw suc-mul (omega (arith, q .1)))
 
     pub stand-more : {ss ws : Terms} (d : StandAll b ss ws)
-        → (e : StandAll b′ ss (subs ws (put x v))) × (stepsAll e ≤ stepsAll d * suc (steps stood))
+        → (e : StandAll b′ ss (subs ws (bind x v))) × (stepsAll e ≤ stepsAll d * suc (steps stood))
     stand-more done = (done, rw one-mul (omega arith))
     stand-more (more d ds) =
         let q = stands-more d in
@@ -134,7 +117,7 @@ module _ (b b′ : Bindings) (x : ℕ) (t v : Term) (was : b x ≡ none) (now-bo
         (more (q .0) (r .0), rw add-mul (omega (arith, q .1, r .1)))
 
   -- every variable still stands for something
-  pub full-more : (σ : Subst) (c : ℕ) → Full b σ c → Full b′ (λ y. sub (σ y) (put x v)) (c * suc (steps stood))
+  pub full-more : (σ : Subst) (c : ℕ) → Full b σ c → Full b′ (λ y. sub (σ y) (bind x v)) (c * suc (steps stood))
   full-more σ c F =
       record {
         stands = λ y. stands-more (F .stands y) .0;

@@ -1,4 +1,4 @@
 // Cells, walks, substitutions and unifiers: the only crate that knows how unification works.
 pub mod cursor;
-pub mod unify;
+pub mod unifier;
 pub mod walk;

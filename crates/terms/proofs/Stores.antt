@@ -1,0 +1,44 @@
+-- Solutions of a store of bindings, and what one more binding does to them.
+use Prim.Native.Nat.{ℕ}
+use mathlib.Core.Path.{_≡_, refl, sym, ap, _∙_, fun-ext}
+use mathlib.Core.Logic.{_↔_}
+use native.Mathlib.Decide.{ℕ-discrete}
+use Rattle.terms.specs.Term.{Term, Terms, var, Subst, sub, subs, comp}
+use Rattle.terms.proofs.Substs.{sub-comp, subs-comp, sub-agree}
+use Rattle.terms.proofs.Solutions.{bind, bind-same, bind-other}
+
+-- τ is a solution of σ: it is σ followed by τ
+abbrev pub Solves : Subst → Subst → Type 0
+Solves σ τ = (x : ℕ) → sub (σ x) τ ≡ τ x
+
+-- under a solution a term is what it stands for
+pub solves-sub : (σ τ : Subst) → Solves σ τ → (t : Term) → sub (sub t σ) τ ≡ sub t τ
+solves-sub σ τ h t = sub-comp t σ τ ∙ sub-agree t (comp σ τ) τ (λ x _. h x)
+
+pub solves-subs : (σ τ : Subst) → Solves σ τ → (ts : Terms) → subs (subs ts σ) τ ≡ subs ts τ
+solves-subs σ τ h ts = subs-comp ts σ τ ∙ ap (subs ts) (fun-ext h)
+
+-- the solutions of a store with one more binding are its solutions that agree with the binding
+module _ (σ : Subst) (x : ℕ) (t : Term) (itself : σ x ≡ var x) where
+  abbrev pub extended : Subst
+  extended y = sub (σ y) (bind x (sub t σ))
+
+  one-absorbed : (τ : Subst) → sub (sub t σ) τ ≡ τ x → (y : ℕ) → sub (bind x (sub t σ) y) τ ≡ τ y
+  one-absorbed τ h y = go (ℕ-discrete y x)
+    where
+      go : Dec (y ≡ x) → sub (bind x (sub t σ) y) τ ≡ τ y
+      go (yes e) = rw (e, bind-same x (sub t σ)) h
+      go (no f) = rw (bind-other x y (sub t σ) f) refl
+
+  extended-absorbed : (τ : Subst) → sub (sub t σ) τ ≡ τ x → (y : ℕ) → sub (extended y) τ ≡ sub (σ y) τ
+  extended-absorbed τ h y =
+      sub-comp (σ y) (bind x (sub t σ)) τ ∙ sub-agree (σ y) (comp (bind x (sub t σ)) τ) τ (λ z _. one-absorbed τ h z)
+
+  pub extended-solves : (τ : Subst) → Solves extended τ ↔ (Solves σ τ × (τ x ≡ sub t τ))
+  extended-solves τ = (
+    (λ h.
+        let v : sub (sub t σ) τ ≡ τ x = ap (λ (u : Term). sub u τ) (sym (bind-same x (sub t σ)) ∙ ap (λ (u : Term). sub u (bind x (sub t σ))) (sym itself)) ∙ h x in
+        let s : Solves σ τ = λ y. sym (extended-absorbed τ v y) ∙ h y in
+        (s, sym v ∙ solves-sub σ τ s t)),
+    (λ h. λ y. extended-absorbed τ (solves-sub σ τ (h .0) t ∙ sym (h .1)) y ∙ h .0 y),
+  )
