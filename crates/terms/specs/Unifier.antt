@@ -15,4 +15,4 @@ Apart A B = (α β : Subst) → Unifies A B α β → ⊥
 pub record MostGeneral (A B : Term) (α β : Subst) : Type 0 where
   pub unifies : Unifies A B α β
   pub general : (α′ β′ : Subst) → Unifies A B α′ β′
-    → (θ : Subst) × ((x : ℕ) → Occ x A → sub (α x) θ ≡ α′ x) × ((y : ℕ) → Occ y B → sub (β y) θ ≡ β′ y)
+      → (θ : Subst) × ((x : ℕ) → Occ x A → sub (α x) θ ≡ α′ x) × ((y : ℕ) → Occ y B → sub (β y) θ ≡ β′ y)
