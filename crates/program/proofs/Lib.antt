@@ -1,0 +1,3 @@
+-- The laws that other crates cite, each module named by its subject.
+pub mod ShapeLaws
+pub mod ListLaws
