@@ -19,14 +19,17 @@ pub record Domain : Type 1 where
   -- what the marks say of a substitution
   pub Holds : Mark → Subst → Type 0
 
--- what a domain's marks must do so that a row covers what a run does: each operation has a result that holds where its arguments do
+-- what the marks of a domain must keep so that the rows of a table cover what its runs call and solve
 pub record Sound (D : Domain) : Type 1 where
+  -- "Variables with no mark said are any": no marks say nothing
   pub holds-none : (σ : Subst) → D .Holds (D .none) σ
-  -- what holds stays so under a further substitution
+  -- a step of a run applies its substitution to everything, and the marks still hold
   pub holds-under : (M : D .Mark) (σ θ : Subst) → D .Holds M σ → D .Holds M (comp σ θ)
-  pub pass-holds : (A : Term) (M : D .Mark) (B : Term) (N : D .Mark) (α β : Subst) → sub A α ≡ sub B β → D .Holds M α → D .Holds N β
+  -- atoms made equal: marks pass, and what results holds
+  pub pass-holds : (A B : Term) (M N : D .Mark) (α β : Subst) → sub A α ≡ sub B β → D .Holds M α → D .Holds N β
       → (R : D .Mark) × D .Pass A M B N R × D .Holds R β
   pub join-holds : (M N : D .Mark) (σ : Subst) → D .Holds M σ → D .Holds N σ → (R : D .Mark) × D .Join M N R × D .Holds R σ
-  pub keep-holds : (P : ℕ → Type 0) (M : D .Mark) (σ : Subst) → ((v : ℕ) → Dec (P v)) → D .Holds M σ → (R : D .Mark) × D .Keep P M R × D .Holds R σ
+  pub keep-holds : (P : ℕ → Type 0) (M : D .Mark) (σ : Subst) → ((v : ℕ) → Dec (P v)) → D .Holds M σ
+      → (R : D .Mark) × D .Keep P M R × D .Holds R σ
   pub number-holds : (A : Term) (f : ℕ → ℕ) (M : D .Mark) (σ σ′ : Subst) → ((v : ℕ) → Occ v A → σ′ (f v) ≡ σ v) → D .Holds M σ
       → (R : D .Mark) × D .Number A f M R × D .Holds R σ′

@@ -54,7 +54,7 @@ module _ (D : Domain) (sound : Sound D) (p : Program) (goal : D .Mark) (T : Row 
       → sub (c .head) β ≡ G → ByCall D p T s G → Frames D p T G s rest
       → Progress (written p after β ++ (end s G ∷ rest))
   arrive [] k i c N β G s rest h f reached holds e by below =
-      let passed = sound .pass-holds (c .head) N (by .2 .shape) (by .0) β (by .2 .terms) (e ∙ by .2 .reads) holds (by .2 .holds) in
+      let passed = sound .pass-holds (c .head) (by .2 .shape) N (by .0) β (by .2 .terms) (e ∙ by .2 .reads) holds (by .2 .holds) in
       solving (
         passed .0,
         closed _ (solves h (rw (from-end f) at reached) (by .2 .numbered) (by .1) (passed .1)),
@@ -97,7 +97,7 @@ module _ (D : Domain) (sound : Sound D) (p : Program) (goal : D .Mark) (T : Row 
       → Progress (written p (c .body) β ++ (end s (sub A θ) ∷ apply rest θ))
   call-covers k s c A rest β θ h e (M, row, by) below =
       let under = covered-under D p T sound s M A θ by in
-      let passed = sound .pass-holds (under .shape) M (c .head) (D .none) (under .terms) β (sym (under .reads) ∙ sym e) (under .holds) (sound .holds-none β) in
+      let passed = sound .pass-holds (under .shape) (c .head) M (D .none) (under .terms) β (sym (under .reads) ∙ sym e) (under .holds) (sound .holds-none β) in
       arrive (c .body) k 0 c (passed .0) β (sub A θ) s (apply rest θ) h all (first h (under .numbered) row (passed .1)) (passed .2) e (M, row, under)
       (frames-under D p T sound θ below)
 
@@ -105,7 +105,7 @@ module _ (D : Domain) (sound : Sound D) (p : Program) (goal : D .Mark) (T : Row 
   pub solution-covers : {s : ℕ} {A : Term} {rest : List Item} → BySolution D p T s A → Frames D p T A s rest → Progress rest
   solution-covers by bottom = done
   solution-covers {s} {A} (L, row, by) (frame {G = G} {s = s′} {rest = rest} w e below) =
-      let passed = sound .pass-holds (by .shape) L (w .written-as) (D .none) (by .terms) (w .β) (sym (by .reads) ∙ w .reads) (by .holds) (sound .holds-none (w .β)) in
+      let passed = sound .pass-holds (by .shape) (w .written-as) L (D .none) (by .terms) (w .β) (sym (by .reads) ∙ w .reads) (by .holds) (sound .holds-none (w .β)) in
       let joined = sound .join-holds (w .marks) (passed .0) (w .β) (w .holds) (passed .2) in
       rw (e, w .ahead-reads)
       (arrive (w .after) (w .k) (suc (w .i)) (w .clause) (joined .0) (w .β) G s′ rest (w .is-clause) (from-next (w .at-place))
