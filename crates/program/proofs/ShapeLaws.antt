@@ -95,9 +95,9 @@ distinct-has (u ∷ ts) seen t m = at (distinct-has ts (with sameTerm seen u) t)
     at below (inl e) = distinct-keeps ts (with sameTerm seen u) t (rw e (with-has sameTerm seen u))
     at below (inr m′) = below m′
 
-pub map-has : (f : Term → Term) (ts : List Term) (t : Term) → List·Memᴰ t ts → List·Memᴰ (f t) (map f ts)
-map-has f (u ∷ ts) t (List·Memᴰ·head e) = List·Memᴰ·head (ap f e)
-map-has f (u ∷ ts) t (List·Memᴰ·tail m) = List·Memᴰ·tail (map-has f ts t m)
+pub map-has : {A B : Type 0} (f : A → B) (l : List A) (a : A) → List·Memᴰ a l → List·Memᴰ (f a) (map f l)
+map-has f (b ∷ l) a (List·Memᴰ·head e) = List·Memᴰ·head (ap f e)
+map-has f (b ∷ l) a (List·Memᴰ·tail m) = List·Memᴰ·tail (map-has f l a m)
 
 pub bodies-has : (cs : List Clause) {k i : ℕ} {c : Clause} {A : Term} → Nth cs k c → Nth (c .body) i A → List·Memᴰ A (bodies cs)
 bodies-has (c ∷ cs) here a = Memᴰ·append-left (bodies cs) (nth-member a)

@@ -2,3 +2,4 @@
 pub mod Items
 pub mod Frames
 pub mod Covering
+pub mod TableCovers
