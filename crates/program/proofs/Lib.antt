@@ -1,2 +1,4 @@
--- The laws that other crates cite, each module named by its subject.
+-- The laws of encoded programs, each module named by its subject.
 pub mod Samples
+pub mod ListLaws
+pub mod ShapeLaws

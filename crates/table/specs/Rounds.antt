@@ -23,3 +23,7 @@ module _ (D : Domain) (p : Program) (goal : D .Mark) where
   -- "The table is the least set of rows closed under the mode rules": the rows of every closed set that has the goal's call
   abbrev pub Least : Row (D .Mark) → Type 1
   Least row = (T : Row (D .Mark) → Type 0) → Closed T → T (call 0 goal) → T row
+
+  -- the union of the rounds: the rows that appear in some round
+  abbrev pub Appears : Row (D .Mark) → Type 0
+  Appears row = (k : ℕ) × At k row

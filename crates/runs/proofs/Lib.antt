@@ -1,0 +1,5 @@
+-- The laws that other crates cite, each module named by its subject.
+pub mod Items
+pub mod Frames
+pub mod Covering
+pub mod TableCovers

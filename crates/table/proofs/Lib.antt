@@ -1,0 +1,4 @@
+-- The laws that other crates cite, each module named by its subject.
+pub mod RuleLaws
+pub mod RoundLaws
+pub mod RoundCount

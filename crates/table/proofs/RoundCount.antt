@@ -1,0 +1,65 @@
+-- "Its round is below the number of rows": every round up to a row's has a row of its own.
+use Prim.Native.Nat.{ℕ, zero, suc, _+_, _≤_, _<_}
+use native.Mathlib.Omega.{arith}
+use native.Mathlib.Decide.{ℕ-discrete}
+use mathlib.Core.Path.{_≡_, refl, sym, _∙_}
+use mathlib.Core.Logic.{_⊎_, inl, inr}
+use mathlib.Core.List.{List, [], _∷_, map, List·Memᴰ, List·Memᴰ·head, List·Memᴰ·tail, List·Memᴰ·cases-cons}
+use lib.ListN.{length, length-map}
+use Rattle.marks.specs.Domain.{Domain}
+use Rattle.program.specs.Program.{Program}
+use Rattle.program.proofs.ShapeLaws.{map-has}
+use Rattle.table.specs.Rules.{Row}
+use Rattle.table.specs.Rounds.{At, First}
+use Rattle.table.proofs.RoundLaws.{first-before}
+
+-- a list that has n, without it: one shorter, and it has every other number that it had
+pub record Without (n : ℕ) (l : List ℕ) : Type 0 where
+  pub rest : List ℕ
+  pub shorter : length l ≡ suc (length rest)
+  pub has : (m : ℕ) → (m ≡ n → ⊥) → List·Memᴰ m l → List·Memᴰ m rest
+
+pub without : (n : ℕ) (l : List ℕ) → List·Memᴰ n l → Without n l
+without n (a ∷ l) (List·Memᴰ·head e) = record { rest = l; shorter = refl; has = λ m ne h. other m ne (List·Memᴰ·cases-cons h) }
+  where
+    other : (m : ℕ) → (m ≡ n → ⊥) → (m ≡ a) ⊎ List·Memᴰ m l → List·Memᴰ m l
+    other m ne (inl d) = absurd (ne (d ∙ sym e))
+    other m ne (inr h) = h
+without n (a ∷ l) (List·Memᴰ·tail h) = behind (without n l h)
+  where
+    other : (w : Without n l) (m : ℕ) → (m ≡ n → ⊥) → (m ≡ a) ⊎ List·Memᴰ m l → List·Memᴰ m (a ∷ w .rest)
+    other w m ne (inl d) = List·Memᴰ·head d
+    other w m ne (inr h) = List·Memᴰ·tail (w .has m ne h)
+
+    behind : Without n l → Without n (a ∷ l)
+    behind w = record { rest = a ∷ w .rest; shorter = rw (w .shorter); has = λ m ne h. other w m ne (List·Memᴰ·cases-cons h) }
+
+-- a list that has every number below n has n elements or more
+pub all-below-count : (n : ℕ) (l : List ℕ) → ((m : ℕ) → m < n → List·Memᴰ m l) → n ≤ length l
+all-below-count zero l h = omega arith
+all-below-count (suc n) l h =
+    let w = without n l (h n (omega arith)) in
+    let c = all-below-count n (w .rest) (λ m less. w .has m (λ e. absurd (omega arith)) (h m (omega arith))) in
+    omega (arith, w .shorter)
+
+module _ (D : Domain) (p : Program) (goal : D .Mark) (decide : (k : ℕ) (row : Row (D .Mark)) → Dec (At D p goal k row)) where
+  -- each round up to a row's first has a row that is first there
+  pub round-inhabited : (k j : ℕ) → j ≤ k → (row : Row (D .Mark)) → First D p goal k row → (row′ : Row (D .Mark)) × First D p goal j row′
+  round-inhabited zero j h row f = let e : j ≡ 0 = omega arith in (row, rw e f)
+  round-inhabited (suc k) j h row f = at (λ l. let (row′, f′) = first-before D p goal decide k row f in round-inhabited k j l row′ f′) (ℕ-discrete j (suc k))
+    where
+      at : (j ≤ k → (row′ : Row (D .Mark)) × First D p goal j row′) → Dec (j ≡ suc k) → (row′ : Row (D .Mark)) × First D p goal j row′
+      at below (yes e) = (row, rw e f)
+      at below (no ne) = below (omega arith)
+
+  -- in any list that has, with its round, each row of the least set: the rounds are below the list's length
+  pub round-below-count : {A : Type 0} (l : List A) (round : A → ℕ)
+      → ((j : ℕ) (row : Row (D .Mark)) → First D p goal j row → (a : A) × List·Memᴰ a l × (round a ≡ j))
+      → (k : ℕ) (row : Row (D .Mark)) → First D p goal k row → k < length l
+  round-below-count l round listed k row f = rw length-map at (all-below-count (suc k) (map round l) found)
+    where
+      found : (j : ℕ) → j < suc k → List·Memᴰ j (map round l)
+      found j less =
+          let (row′, f′) = round-inhabited k j (omega arith) row f in
+          let (a, m, e) = listed j row′ f′ in
+          rw (← e) (map-has round l a m)
