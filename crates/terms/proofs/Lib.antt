@@ -1,5 +1,6 @@
 -- The laws that other crates cite, each module named by its subject.
 pub mod Substs
+pub mod Masks
 pub mod Variables
 pub mod Solutions
 pub mod Space
@@ -9,5 +10,6 @@ pub mod Renaming
 pub mod Samples
 pub mod Runs
 pub mod Steps
+pub mod Walks
 pub mod Standing
 pub mod Stores

@@ -3,5 +3,6 @@ pub mod Term
 pub mod Cells
 pub mod Unifier
 pub mod Cursor
+pub mod Mask
 pub mod Store
 pub mod Walk

@@ -1,24 +1,31 @@
 -- What the walks over a run of cells find: where its terms end, which variables are present, whether all are in a set.
-use Prim.Native.Nat.{ℕ, zero, suc, _+_, _-_, _/_, _%_, _^_, _≤_, _<_}
+use Prim.Native.Nat.{ℕ, zero, suc, _+_, _<_}
 use mathlib.Core.Path.{_≡_}
-use mathlib.Core.Logic.{_↔_}
-use mathlib.Core.List.{List}
-use lib.ListN.{length}
-use Rattle.terms.specs.Term.{Terms, Occs}
-use Rattle.terms.specs.Cells.{encs, termsOf, takeTerms}
+use mathlib.Core.List.{List, [], _∷_}
+use mathlib.Core.Logic.{_⊎_}
+use mathlib.Core.Bool.{Bool, true, false}
+use lib.ListN.{length, getD}
+use lib.Dec.{T}
+use Rattle.terms.specs.Cells.{firstVariable, variables, encs, termsOf, takeTerms}
+use Rattle.terms.specs.Mask.{Has, Marks}
 
 -- how many cells the first n terms of a run have
 abbrev pub cellsOf : List ℕ → List ℕ → ℕ → ℕ
 cellsOf arities cells n = length (encs (takeTerms n (termsOf arities cells)))
 
--- a set of variables: z is in it where bit z is 1
-abbrev pub In : ℕ → ℕ → Type 0
-In set z = set / 2 ^ z % 2 ≡ 1
+-- the variable v is in the run: its cell is there
+abbrev pub InRun : ℕ → List ℕ → Type 0
+InRun v [] = ⊥
+InRun v (c ∷ cs) = (c ≡ firstVariable + v) ⊎ InRun v cs
 
--- the variables that a run's first n terms have
-abbrev pub Variables : List ℕ → List ℕ → ℕ → ℕ → Type 0
-Variables arities cells n set = (z : ℕ) → In set z ↔ Occs z (takeTerms n (termsOf arities cells))
+-- each cell is a function's or a variable's, and "v is at most 15"
+abbrev pub Cells : List ℕ → Type 0
+Cells cells = (i : ℕ) → i < length cells → getD cells i 0 < firstVariable + variables
 
--- every variable of them is in the set
-abbrev pub Inside : List ℕ → List ℕ → ℕ → ℕ → Type 0
-Inside arities cells n set = (z : ℕ) → Occs z (takeTerms n (termsOf arities cells)) → In set z
+-- which variables are present
+abbrev pub Present : List ℕ → ℕ → Type 0
+Present cells set = Marks (λ v. InRun v cells) set
+
+-- z is in the set of one of the run's variables; their sets begin at `base`
+abbrev pub InSets : List ℕ → ℕ → List ℕ → ℕ → Type 0
+InSets cells base sets z = (v : ℕ) × InRun v cells × Has (getD sets (base + v) 0) z
