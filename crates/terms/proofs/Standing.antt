@@ -12,27 +12,12 @@ use Rattle.terms.specs.Term.{Term, Terms, var, app, nil, cons, Subst, su
 use Rattle.terms.proofs.Solutions.{bind, bind-same, bind-other}
 use Rattle.terms.specs.Cells.{enc, encs}
 use Rattle.terms.specs.Store.{Stands, StandAll, unbound, followed, node, done, more}
+use Rattle.terms.specs.Unifying.{steps, stepsAll, Full}
 
 abbrev pub Bindings : Type 0
 Bindings = ℕ → Option Term
 
--- how many steps it takes to find what a term stands for
-abbrev mutual
-  pub steps : {b : Bindings} {t u : Term} → Stands b t u → ℕ
-  steps (unbound e) = 1
-  steps (followed e d) = suc (steps d)
-  steps (node ds) = suc (stepsAll ds)
-
-  pub stepsAll : {b : Bindings} {ts us : Terms} → StandAll b ts us → ℕ
-  stepsAll done = 1
-  stepsAll (more d ds) = steps d + stepsAll ds
-
--- every variable stands for what σ gives it, in at most c steps
-pub record Full (b : Bindings) (σ : Subst) (c : ℕ) : Type 0 where
-  pub stands : (x : ℕ) → Stands b (var x) (σ x)
-  pub few : (x : ℕ) → steps (stands x) ≤ c
-
--- so does every term, in at most so many steps for each of its cells
+-- where every variable stands for something, so does every term, in at most so many steps for each of its cells
 mutual
   pub stands-sub : (b : Bindings) (σ : Subst) (c : ℕ) → Full b σ c → (t : Term)
       → (d : Stands b t (sub t σ)) × (steps d ≤ length (enc t) * suc (suc c))

@@ -4,12 +4,9 @@ use mathlib.Core.Path.{_≡_, refl, sym, ap, _∙_, fun-ext}
 use mathlib.Core.Logic.{_↔_}
 use native.Mathlib.Decide.{ℕ-discrete}
 use Rattle.terms.specs.Term.{Term, Terms, var, Subst, sub, subs, comp}
+use Rattle.terms.specs.Unifying.{Solves}
 use Rattle.terms.proofs.Substs.{sub-comp, subs-comp, sub-agree}
 use Rattle.terms.proofs.Solutions.{bind, bind-same, bind-other}
-
--- τ is a solution of σ: it is σ followed by τ
-abbrev pub Solves : Subst → Subst → Type 0
-Solves σ τ = (x : ℕ) → sub (σ x) τ ≡ τ x
 
 -- under a solution a term is what it stands for
 pub solves-sub : (σ τ : Subst) → Solves σ τ → (t : Term) → sub (sub t σ) τ ≡ sub t τ

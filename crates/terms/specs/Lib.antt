@@ -6,3 +6,5 @@ pub mod Cursor
 pub mod Mask
 pub mod Store
 pub mod Walk
+pub mod Unifying
+pub mod Unified

@@ -6,7 +6,7 @@ use mathlib.Core.List.{List}
 use lib.ListN.{getD, drop}
 use lib.Dec.{ltb}
 use Rattle.terms.specs.Term.{Term, Terms, var, app, nil, cons, subs}
-use Rattle.terms.specs.Cells.{variables, pick, termsOf, Run}
+use Rattle.terms.specs.Cells.{firstVariable, variables, pick, termsOf}
 
 -- places below this are in the first atom, "the call's atom or the clause's atom", the others in the second
 abbrev pub secondAtom : ℕ
@@ -20,14 +20,17 @@ noPlace = 128
 abbrev pub second : Terms → Terms
 second ts = subs ts (λ v. var (variables + v))
 
+-- the cells from a place on
+abbrev pub cellsAt : List ℕ → List ℕ → ℕ → List ℕ
+cellsAt a b p = pick (ltb p secondAtom) (drop p a) (drop (p - secondAtom) b)
+
 -- the terms that stand at a place of one of the two atoms
 abbrev pub termsAt : List ℕ → List ℕ → List ℕ → ℕ → Terms
-termsAt arities a b p =
-    pick (ltb p secondAtom) (termsOf arities (drop p a)) (second (termsOf arities (drop (p - secondAtom) b)))
+termsAt arities a b p = pick (ltb p secondAtom) (termsOf arities (cellsAt a b p)) (second (termsOf arities (cellsAt a b p)))
 
--- n whole terms stand at a place of one of the two atoms
-abbrev pub RunAt : List ℕ → List ℕ → List ℕ → ℕ → ℕ → Type 0
-RunAt arities a b p n = pick (ltb p secondAtom) (Run arities (drop p a) n) (Run arities (drop (p - secondAtom) b) n)
+-- the number that a variable's cell at a place has in the store
+abbrev pub variableAt : ℕ → ℕ → ℕ
+variableAt p c = pick (ltb p secondAtom) (c - firstVariable) (variables + (c - firstVariable))
 
 -- the first term, where there is one
 abbrev pub firstTerm : Terms → Term
