@@ -1,0 +1,2 @@
+-- The laws that other crates cite, each module named by its subject.
+pub mod Masks
