@@ -4,7 +4,7 @@ use native.Mathlib.Omega.{arith}
 use native.Mathlib.Decide.{ℕ-discrete, decLt}
 use native.Mathlib.Nat.{div-div-eq-div-mul, pow-succ', zero-div, div-eq-of-lt, div-one, div-self, mod-lt, lt-of-lt-of-le, mul-div-cancel, le-trans}
 use mathlib.Core.Path.{_≡_, refl, sym, ap, _∙_, subst}
-use mathlib.Core.Logic.{_↔_, _⊎_, inl, inr}
+use mathlib.Core.Logic.{_↔_, _⊎_, inl, inr, ⊎-map}
 use lib.Arith.{half-le}
 use lib.Bits.{bitAnd, bitOr, and-step, or-step, and-shr, or-shr}
 use lib.Pow.{pow-mono, pow-pos}
@@ -144,6 +144,10 @@ has-or a b v = (λ h. at h (ℕ-discrete (a / 2 ^ v % 2) 1), back)
 
 pub has-and : (a b : ℕ) → Marks (λ v. Has a v × Has b v) (bitAnd a b)
 has-and a b v = let e = and-bit a b v in (λ h. (omega arith, omega arith), λ h. let p = h .0 in let q = h .1 in omega arith)
+
+pub marks-or : {P Q : ℕ → Type 0} (a b : ℕ) → Marks P a → Marks Q b → Marks (λ v. P v ⊎ Q v) (bitOr a b)
+marks-or a b p q v =
+    (λ h. ⊎-map (p v .0) (q v .0) (has-or a b v .0 h), λ h. has-or a b v .1 (⊎-map (p v .1) (q v .1) h))
 
 -- a single bit
 pub has-one : (v : ℕ) → Marks (λ w. w ≡ v) (2 ^ v)
