@@ -1,19 +1,30 @@
 -- Facts on masks, over any number of variables: a mask is what it marks, there is one for every decided property below a bound, and what `|`, `&` and a single bit mark.
-use Prim.Native.Nat.{ℕ, zero, suc, min, max, _+_, _-_, _*_, _/_, _%_, _^_, _≤_, _<_}
+use Prim.Native.Nat.{ℕ, zero, suc, min, max, _+_, _*_, _/_, _%_, _^_, _≤_, _<_}
 use native.Mathlib.Omega.{arith}
 use native.Mathlib.Decide.{ℕ-discrete, decLt}
-use native.Mathlib.Nat.{div-div-eq-div-mul, pow-succ', zero-div, div-eq-of-lt, div-one, div-self, mod-lt, lt-of-lt-of-le, mul-div-cancel, le-trans}
-use mathlib.Core.Path.{_≡_, refl, sym, ap, _∙_, subst}
+use native.Mathlib.Nat.{div-div-eq-div-mul, pow-succ', zero-div, div-eq-of-lt, div-one, mod-lt}
+use mathlib.Core.Path.{_≡_, refl, sym, ap, _∙_}
 use mathlib.Core.Logic.{_↔_, _⊎_, inl, inr, ⊎-map}
 use lib.Arith.{half-le}
 use lib.Bits.{bitAnd, bitOr, and-step, or-step, and-shr, or-shr}
-use lib.Pow.{pow-mono, pow-pos}
-use Rattle.marks.specs.Mask.{Has, Marks}
+use lib.Pow.{pow-mono}
+use Rattle.marks.specs.Mask.{any, ground, neither, markOf, Has, Marks}
 
 -- whether a mask marks a variable
 unfoldable pub has-decided : (m v : ℕ) → Dec (Has m v)
 unfolding ℕ-discrete
 has-decided m v = ℕ-discrete (m / 2 ^ v % 2) 1
+
+-- reply 10 is never given: a mask's mark is any or ground
+pub mark-any-or-ground : (m v : ℕ) → (markOf m v ≡ any) ⊎ (markOf m v ≡ ground)
+mark-any-or-ground m v = at (ℕ-discrete (markOf m v) ground)
+  where
+    at : Dec (markOf m v ≡ ground) → (markOf m v ≡ any) ⊎ (markOf m v ≡ ground)
+    at (yes h) = inr h
+    at (no n) = inl (omega arith)
+
+pub mark-never-neither : (m v : ℕ) → markOf m v ≡ neither → ⊥
+mark-never-neither m v e = omega arith
 
 -- the bit of a later variable is that of the halved mask
 pub halved : (m v : ℕ) → m / 2 / 2 ^ v ≡ m / 2 ^ suc v

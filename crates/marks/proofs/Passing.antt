@@ -1,10 +1,10 @@
 -- Laws of marks passed through a most general unifier: one result whichever unifier is taken, sound for every other unifier, growing with the marks, and there wherever the atoms unify.
 -- The one idea: what is known through a most general unifier stays known under every unifier.
 use Prim.Native.Nat.{ℕ}
-use mathlib.Core.Path.{_≡_, refl, sym, subst}
-use mathlib.Core.Logic.{_↔_, _⊎_, inl, inr}
+use mathlib.Core.Path.{_≡_, sym, subst}
+use mathlib.Core.Logic.{_⊎_, inl, inr}
 use lib.Bits.{bitOr}
-use Rattle.terms.specs.Term.{Term, Subst, sub, Occ, All, Ground}
+use Rattle.terms.specs.Term.{Term, Subst, Occ, All, Ground}
 use Rattle.terms.specs.Unifier.{Unifies, Apart, MostGeneral}
 use Rattle.terms.proofs.Substs.{all-occ, occ-all, occ-sub, sub-occ}
 use Rattle.terms.proofs.Variables.{both-decided, decided-for, occ-decided, all-decided, some-decided, above, occ-above}

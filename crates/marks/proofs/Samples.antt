@@ -1,12 +1,14 @@
 -- Passing of marks computes: small samples, each by reflexivity.
-use Prim.Native.Nat.{ℕ}
+use Prim.Native.Nat.{ℕ, _-_}
+use native.Mathlib.Decide.{ℕ-discrete}
 use mathlib.Core.Path.{_≡_, refl}
 use mathlib.Core.Logic.{_⊎_, inl, inr}
 use mathlib.Core.Option.{Option, none, some}
-use Rattle.terms.specs.Term.{Term, Terms, var, app, nil, cons}
+use Rattle.terms.specs.Term.{Term, var, app, nil, cons}
 use Rattle.terms.specs.Unifier.{Apart}
 use Rattle.marks.specs.Pass.{Pass}
 use Rattle.marks.proofs.Passing.{pass-decided}
+use Rattle.marks.proofs.Modes.{keptOf, renumberedOf}
 
 abbrev p : Term → Term → Term
 p s t = app 0 (cons s (cons t nil))
@@ -56,3 +58,12 @@ compound = refl
 apart : result (p (var 0) (f (var 0))) 1 (p (var 0) (var 0)) 0 ≡ none
 unfolding result
 apart = refl
+
+-- a mask kept to a list, and one taken to a shape's numbering
+kept : keptOf (λ v. v ≡ 2) (λ v. ℕ-discrete v 2) 7 ≡ 4
+unfolding keptOf ℕ-discrete
+kept = refl
+
+renumbered : renumberedOf (p (var 5) (f (var 3))) (λ v. 5 - v) 40 ≡ 5
+unfolding renumberedOf
+renumbered = refl
