@@ -15,7 +15,7 @@ unfoldable pub has-decided : (m v : ℕ) → Dec (Has m v)
 unfolding ℕ-discrete
 has-decided m v = ℕ-discrete (m / 2 ^ v % 2) 1
 
--- reply 10 is never given: a mask's mark is any or ground
+-- a mask's mark is any or ground, so that a mask gives no reply 10
 pub mark-any-or-ground : (m v : ℕ) → (markOf m v ≡ any) ⊎ (markOf m v ≡ ground)
 mark-any-or-ground m v = at (ℕ-discrete (markOf m v) ground)
   where
