@@ -1,13 +1,13 @@
 -- From one space of variables to two atoms whose variables are kept apart: number A's variables by l and B's by r, and a strong
 -- solution of the numbered atoms is a most general unifier. So two atoms are apart or have a most general unifier, never both.
-use Prim.Native.Nat.{ℕ, suc, _+_}
+use Prim.Native.Nat.{ℕ, suc, _+_, _<_}
 use native.Mathlib.Omega.{arith}
 use native.Mathlib.Decide.{ℕ-discrete}
 use mathlib.Core.Path.{_≡_, refl, sym, ap, _∙_}
 use mathlib.Core.Logic.{_⊎_, inl, inr}
-use Rattle.terms.specs.Term.{Term, var, Subst, sub, comp, Occ}
+use Rattle.terms.specs.Term.{Term, var, Subst, sub, comp, All, Occ}
 use Rattle.terms.specs.Unifier.{Unifies, Apart, MostGeneral}
-use Rattle.terms.proofs.Substs.{sub-comp, sub-agree}
+use Rattle.terms.proofs.Substs.{sub-comp, sub-agree, all-occ}
 use Rattle.terms.proofs.Solutions.{Solution}
 use Rattle.terms.proofs.Variables.{Some, some-decided}
 use Rattle.terms.proofs.Unify.{Unified, unify}
@@ -97,6 +97,16 @@ odd-distinct A x x′ o o′ e = omega arith
 
 pub even-odd-disjoint : (A B : Term) → Disjoint A even B odd
 even-odd-disjoint A B x y o o′ e = omega arith
+
+-- or A's variables keep their numbers, below n, and B's stand n further
+pub itself-distinct : (A : Term) → Distinct A (λ v. v)
+itself-distinct A x x′ o o′ e = e
+
+pub shifted-distinct : (n : ℕ) (B : Term) → Distinct B (λ v. n + v)
+shifted-distinct n B y y′ o o′ e = omega arith
+
+pub itself-shifted-disjoint : (n : ℕ) (A B : Term) → All (λ v. v < n) A → Disjoint A (λ v. v) B (λ v. n + v)
+itself-shifted-disjoint n A B small x y o o′ e = let h = all-occ (λ v. v < n) A small x o in omega arith
 
 -- what is said of two atoms
 abbrev pub Decided : Term → Term → Type 0
