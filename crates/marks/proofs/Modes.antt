@@ -7,10 +7,10 @@ use lib.Bits.{bitOr}
 use Rattle.terms.specs.Term.{Term, Occ, Ground}
 use Rattle.terms.proofs.Substs.{ground-sub}
 use Rattle.terms.proofs.Variables.{both-decided, decided-for, some-decided, above, occ-above}
-use Rattle.marks.specs.Mask.{Has}
+use Rattle.terms.specs.Mask.{Has}
 use Rattle.marks.specs.Domain.{Sound}
 use Rattle.marks.specs.Modes.{Together, Kept, Renumbered, modes}
-use Rattle.marks.proofs.Masks.{has-none, has-decided, has-below, width, width-below, has-or, maskOf, maskOf-marks, marks-unique}
+use Rattle.terms.proofs.Masks.{has-none, has-decided, has-below, width, width-below, has-or, maskOf, maskOf-marks, marks-unique}
 use Rattle.marks.proofs.Passing.{pass-fires, pass-sound}
 
 pub together-unique : (M N R R′ : ℕ) → Together M N R → Together M N R′ → R ≡ R′

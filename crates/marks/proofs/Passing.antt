@@ -9,9 +9,9 @@ use Rattle.terms.specs.Unifier.{Unifies, Apart, MostGeneral}
 use Rattle.terms.proofs.Substs.{all-occ, occ-all, occ-sub, sub-occ}
 use Rattle.terms.proofs.Variables.{both-decided, decided-for, occ-decided, all-decided, some-decided, above, occ-above}
 use Rattle.terms.proofs.Pairs.{Decided, unifier-decided}
-use Rattle.marks.specs.Mask.{Has, Marks}
+use Rattle.terms.specs.Mask.{Has, Marks}
 use Rattle.marks.specs.Pass.{Known, Marked, Pass}
-use Rattle.marks.proofs.Masks.{has-decided, marks-or, maskOf, maskOf-marks, same-marks}
+use Rattle.terms.proofs.Masks.{has-decided, marks-or, maskOf, maskOf-marks, same-marks}
 
 -- marks of M are marks of M′
 abbrev pub Fewer : ℕ → ℕ → Type 0

@@ -3,7 +3,7 @@ use Prim.Native.Nat.{ℕ}
 use mathlib.Core.Path.{_≡_}
 use mathlib.Core.Logic.{_⊎_}
 use Rattle.terms.specs.Term.{Term, Subst, Occ, Ground}
-use Rattle.marks.specs.Mask.{Has, Marks}
+use Rattle.terms.specs.Mask.{Has, Marks}
 use Rattle.marks.specs.Pass.{Pass}
 use Rattle.marks.specs.Domain.{Domain}
 

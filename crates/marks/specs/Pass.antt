@@ -3,7 +3,7 @@ use Prim.Native.Nat.{ℕ}
 use mathlib.Core.Logic.{_⊎_}
 use Rattle.terms.specs.Term.{Term, Subst, Occ, All}
 use Rattle.terms.specs.Unifier.{MostGeneral}
-use Rattle.marks.specs.Mask.{Has, Marks}
+use Rattle.terms.specs.Mask.{Has, Marks}
 
 -- "a variable is known ground if it occurs in what some marked variable of A stands for"
 abbrev pub Known : Term → ℕ → Subst → ℕ → Type 0

@@ -1,19 +1,30 @@
 -- Facts on masks, over any number of variables: a mask is what it marks, there is one for every decided property below a bound, and what `|`, `&` and a single bit mark.
-use Prim.Native.Nat.{ℕ, zero, suc, min, max, _+_, _-_, _*_, _/_, _%_, _^_, _≤_, _<_}
+use Prim.Native.Nat.{ℕ, zero, suc, min, max, _+_, _*_, _/_, _%_, _^_, _≤_, _<_}
 use native.Mathlib.Omega.{arith}
 use native.Mathlib.Decide.{ℕ-discrete, decLt}
-use native.Mathlib.Nat.{div-div-eq-div-mul, pow-succ', zero-div, div-eq-of-lt, div-one, div-self, mod-lt, lt-of-lt-of-le, mul-div-cancel, le-trans}
-use mathlib.Core.Path.{_≡_, refl, sym, ap, _∙_, subst}
-use mathlib.Core.Logic.{_↔_, _⊎_, inl, inr}
+use native.Mathlib.Nat.{div-div-eq-div-mul, pow-succ', zero-div, div-eq-of-lt, div-one, mod-lt}
+use mathlib.Core.Path.{_≡_, refl, sym, ap, _∙_}
+use mathlib.Core.Logic.{_↔_, _⊎_, inl, inr, ⊎-map}
 use lib.Arith.{half-le}
 use lib.Bits.{bitAnd, bitOr, and-step, or-step, and-shr, or-shr}
-use lib.Pow.{pow-mono, pow-pos}
-use Rattle.terms.specs.Mask.{Has, Marks}
+use lib.Pow.{pow-mono}
+use Rattle.terms.specs.Mask.{any, ground, neither, markOf, Has, Marks}
 
 -- whether a mask marks a variable
 unfoldable pub has-decided : (m v : ℕ) → Dec (Has m v)
 unfolding ℕ-discrete
 has-decided m v = ℕ-discrete (m / 2 ^ v % 2) 1
+
+-- a mask's mark is any or ground, so that a mask gives no reply 10
+pub mark-any-or-ground : (m v : ℕ) → (markOf m v ≡ any) ⊎ (markOf m v ≡ ground)
+mark-any-or-ground m v = at (ℕ-discrete (markOf m v) ground)
+  where
+    at : Dec (markOf m v ≡ ground) → (markOf m v ≡ any) ⊎ (markOf m v ≡ ground)
+    at (yes h) = inr h
+    at (no n) = inl (omega arith)
+
+pub mark-never-neither : (m v : ℕ) → markOf m v ≡ neither → ⊥
+mark-never-neither m v e = omega arith
 
 -- the bit of a later variable is that of the halved mask
 pub halved : (m v : ℕ) → m / 2 / 2 ^ v ≡ m / 2 ^ suc v
@@ -144,6 +155,10 @@ has-or a b v = (λ h. at h (ℕ-discrete (a / 2 ^ v % 2) 1), back)
 
 pub has-and : (a b : ℕ) → Marks (λ v. Has a v × Has b v) (bitAnd a b)
 has-and a b v = let e = and-bit a b v in (λ h. (omega arith, omega arith), λ h. let p = h .0 in let q = h .1 in omega arith)
+
+pub marks-or : {P Q : ℕ → Type 0} (a b : ℕ) → Marks P a → Marks Q b → Marks (λ v. P v ⊎ Q v) (bitOr a b)
+marks-or a b p q v =
+    (λ h. ⊎-map (p v .0) (q v .0) (has-or a b v .0 h), λ h. has-or a b v .1 (⊎-map (p v .1) (q v .1) h))
 
 -- a single bit
 pub has-one : (v : ℕ) → Marks (λ w. w ≡ v) (2 ^ v)

@@ -1,5 +1,10 @@
 // Unification of two atoms over the cells where they stand, with one store of bindings and the occurs check.
-use crate::walk::{has, only, terms_end, union_of, wide, FIRST_VARIABLE};
+use crate::walk::FIRST_VARIABLE;
+use crate::walk::has;
+use crate::walk::only;
+use crate::walk::terms_end;
+use crate::walk::union_of;
+use crate::walk::wide;
 ghost use mathlib.Core.Path.{_≡_};
 ghost use mathlib.Core.Option.{none};
 ghost use Prim.Native.Nat.{ℕ, _+_, _-_, _≤_, _<_};
@@ -17,6 +22,7 @@ pub const SECOND_ATOM: usize = 64;
 pub const NO_PLACE: u8 = 128;
 // How many variables two atoms have, and how many of them are the first's.
 pub const VARIABLES: usize = 32;
+
 pub const FIRST_VARIABLES: usize = 16;
 
 // A binding as an index.
