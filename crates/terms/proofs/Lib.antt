@@ -11,5 +11,7 @@ pub mod Samples
 pub mod Runs
 pub mod Steps
 pub mod Walks
+pub mod Places
+pub mod Replacing
 pub mod Standing
 pub mod Stores
