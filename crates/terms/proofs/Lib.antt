@@ -13,5 +13,8 @@ pub mod Steps
 pub mod Walks
 pub mod Places
 pub mod Replacing
+pub mod Standings
+pub mod Binding
+pub mod Joining
 pub mod Standing
 pub mod Stores
