@@ -10,7 +10,7 @@ use Rattle.marks.specs.Domain.{Domain, Sound}
 use Rattle.program.specs.Program.{Nth, Clause, Program}
 use Rattle.program.specs.Shapes.{shapes, shapeOf, shapeNumber, number, Listed}
 use Rattle.program.proofs.ShapeLaws.{body-shape, goal-shape, shape-instance, numbered, numbered-number}
-use Rattle.program.proofs.ListLaws.{listed-dec}
+use Rattle.program.proofs.ListLaws.{listed-decided}
 use Rattle.table.specs.Rules.{Row, call, cont, solution, Reached, first, next, Gives, calls, conts, solves}
 use Rattle.table.specs.Rounds.{Closed}
 use Rattle.runs.specs.Run.{Item, atom, end, apply, written, renamed, Step, put, leave, Run, start, step}
@@ -63,7 +63,7 @@ module _ (D : Domain) (sound : Sound D) (p : Program) (goal : D .Mark) (T : Row 
       below
   arrive (A ∷ after) k i c N β G s rest h f reached holds e by below =
       let taken = sound .number-holds A (number A) N β (numbered A β) (numbered-number A β) holds in
-      let kept = sound .keep-holds (Listed c i) N β (listed-dec c i) holds in
+      let kept = sound .keep-holds (Listed c i) N β (listed-decided c i) holds in
       calling (
         taken .0,
         closed _ (calls reached h (from-nth f) (taken .1)),

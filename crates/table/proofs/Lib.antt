@@ -2,3 +2,6 @@
 pub mod RuleLaws
 pub mod RoundLaws
 pub mod RoundCount
+pub mod Lists
+pub mod Computed
+pub mod ComputedLaws
