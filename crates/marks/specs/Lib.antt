@@ -2,3 +2,4 @@
 pub mod Mask
 pub mod Pass
 pub mod Domain
+pub mod Modes

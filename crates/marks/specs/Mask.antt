@@ -3,9 +3,23 @@ use Prim.Native.Nat.{ℕ, _/_, _%_, _^_}
 use mathlib.Core.Path.{_≡_}
 use mathlib.Core.Logic.{_↔_}
 
+-- the numbers of a mark: "0 any, 1 ground", and a third for "a mark comes out neither any nor ground"
+abbrev pub any : ℕ
+any = 0
+
+abbrev pub ground : ℕ
+ground = 1
+
+abbrev pub neither : ℕ
+neither = 2
+
+-- the mark that a mask has for variable v
+abbrev pub markOf : ℕ → ℕ → ℕ
+markOf mask v = mask / 2 ^ v % 2
+
 -- "A mask has bit v set where variable v is ground."
 abbrev pub Has : ℕ → ℕ → Type 0
-Has mask v = mask / 2 ^ v % 2 ≡ 1
+Has mask v = markOf mask v ≡ ground
 
 -- the mask that marks exactly the variables of which P holds; there is at most one
 abbrev pub Marks : (ℕ → Type 0) → ℕ → Type 0

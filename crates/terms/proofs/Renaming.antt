@@ -3,7 +3,7 @@ use Prim.Native.Nat.{ℕ}
 use native.Mathlib.Omega.{arith}
 use mathlib.Core.Path.{_≡_, refl, sym, ap, _∙_}
 use mathlib.Core.Logic.{_⊎_, inl, inr}
-use Rattle.terms.specs.Term.{Term, Terms, var, app, Subst, sub, subs, comp, Occ}
+use Rattle.terms.specs.Term.{Term, var, app, Subst, sub, comp, Occ}
 use Rattle.terms.specs.Unifier.{MostGeneral}
 use Rattle.terms.proofs.Substs.{sub-comp, sub-var, agree-sub}
 

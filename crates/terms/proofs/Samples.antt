@@ -1,9 +1,8 @@
 -- The unifier computes: small samples, each by reflexivity.
-use Prim.Native.Nat.{ℕ, zero, suc}
 use mathlib.Core.Path.{_≡_, refl}
-use mathlib.Core.Logic.{_⊎_, inl, inr}
+use mathlib.Core.Logic.{inl, inr}
 use mathlib.Core.Option.{Option, none, some}
-use Rattle.terms.specs.Term.{Term, Terms, var, app, nil, cons, sub}
+use Rattle.terms.specs.Term.{Term, var, app, nil, cons, sub}
 use Rattle.terms.proofs.Unify.{Unified, unify}
 use Rattle.terms.proofs.Pairs.{Decided, unifier-decided}
 

@@ -1,10 +1,10 @@
 -- Solution sets of equations between terms, and their strong most general solutions: one that every other solution absorbs.
 -- Shown: a variable bound to a term without it, the occurs check, and one equation after another.
-use Prim.Native.Nat.{ℕ, zero, suc, _+_, _≤_, _<_}
+use Prim.Native.Nat.{ℕ, zero, suc, _+_, _≤_}
 use native.Mathlib.Omega.{arith}
 use native.Mathlib.Decide.{ℕ-discrete}
 use mathlib.Core.Path.{_≡_, refl, sym, ap, _∙_, fun-ext, subst}
-use mathlib.Core.Logic.{_⊎_, inl, inr}
+use mathlib.Core.Logic.{inl, inr}
 use Rattle.terms.specs.Term.{Term, Terms, var, app, nil, cons, Subst, sub, subs, comp, Occ, Occs}
 use Rattle.terms.proofs.Substs.{sub-comp, sub-var, sub-agree}
 

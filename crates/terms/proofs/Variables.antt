@@ -1,5 +1,5 @@
 -- The variables of a term: decided whether one occurs, whether all or some have a decided property, listed, and bounded.
-use Prim.Native.Nat.{ℕ, zero, suc, max, _≤_, _<_}
+use Prim.Native.Nat.{ℕ, zero, suc, max, _<_}
 use native.Mathlib.Omega.{arith}
 use native.Mathlib.Decide.{ℕ-discrete}
 use mathlib.Core.Path.{_≡_, refl, ap, subst}

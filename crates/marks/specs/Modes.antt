@@ -1,0 +1,36 @@
+-- The modes, the first domain of marks: a mark is a mask, and a marked variable is ground.
+use Prim.Native.Nat.{ℕ}
+use mathlib.Core.Path.{_≡_}
+use mathlib.Core.Logic.{_⊎_}
+use Rattle.terms.specs.Term.{Term, Subst, Occ, Ground}
+use Rattle.marks.specs.Mask.{Has, Marks}
+use Rattle.marks.specs.Pass.{Pass}
+use Rattle.marks.specs.Domain.{Domain}
+
+-- "the cont row's marks together with those that the solution passes"
+abbrev pub Together : ℕ → ℕ → ℕ → Type 0
+Together M N R = Marks (λ v. Has M v ⊎ Has N v) R
+
+-- "A cont mask has no bit outside its list."
+abbrev pub Kept : (ℕ → Type 0) → ℕ → ℕ → Type 0
+Kept P M R = Marks (λ v. P v × Has M v) R
+
+-- "an atom with its variables renumbered by first appearance": the shape's variable f v is marked where the atom's v is
+abbrev pub Renumbered : Term → (ℕ → ℕ) → ℕ → ℕ → Type 0
+Renumbered A f M R = Marks (λ k. (v : ℕ) × Occ v A × (f v ≡ k) × Has M v) R
+
+-- "ground where marked"
+abbrev pub GroundWhere : ℕ → Subst → Type 0
+GroundWhere M σ = (v : ℕ) → Has M v → Ground (σ v)
+
+abbrev pub modes : Domain
+modes =
+    record {
+      Mark = ℕ;
+      none = 0;
+      Pass = Pass;
+      Join = Together;
+      Keep = Kept;
+      Number = Renumbered;
+      Holds = GroundWhere;
+    }
