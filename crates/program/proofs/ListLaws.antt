@@ -8,8 +8,10 @@ use Rattle.program.specs.Program.{Clause}
 use Rattle.program.specs.Shapes.{In, Listed}
 
 unfoldable pub in-decided : (v : ℕ) (ts : List Term) → Dec (In v ts)
+unfolding occ-decided either-decided
 in-decided v [] = no (λ o. o)
 in-decided v (t ∷ ts) = either-decided (occ-decided v t) (in-decided v ts)
 
 unfoldable pub listed-decided : (c : Clause) (i v : ℕ) → Dec (Listed c i v)
+unfolding in-decided both-decided
 listed-decided c i v = both-decided (in-decided v (c .head ∷ take i (c .body))) (in-decided v (c .head ∷ drop i (c .body)))

@@ -5,3 +5,5 @@ pub mod RoundCount
 pub mod Lists
 pub mod Computed
 pub mod ComputedLaws
+pub mod ModesComputed
+pub mod Samples
