@@ -15,7 +15,11 @@ pub nth-member : {A : Type 0} {l : List A} {n : ℕ} {a : A} → Nth l n a → L
 nth-member here = List·Memᴰ·head refl
 nth-member (there h) = List·Memᴰ·tail (nth-member h)
 
--- an element of a list stands at some place of it
+-- one element stands at a place
+pub nth-same : {A : Type 0} {l : List A} {n : ℕ} {a b : A} → Nth l n a → Nth l n b → a ≡ b
+nth-same here here = refl
+nth-same (there h) (there h′) = nth-same h h′
+
 pub nth-getD : {A : Type 0} {l : List A} {n : ℕ} {a : A} (d : A) → Nth l n a → getD l n d ≡ a
 nth-getD d here = refl
 nth-getD d (there h) = nth-getD d h

@@ -3,3 +3,4 @@ pub mod Items
 pub mod Frames
 pub mod Covering
 pub mod TableCovers
+pub mod GroundCalls
