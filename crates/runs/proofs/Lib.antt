@@ -4,3 +4,5 @@ pub mod Frames
 pub mod Covering
 pub mod TableCovers
 pub mod GroundCalls
+pub mod LegsRun
+pub mod WrongTable

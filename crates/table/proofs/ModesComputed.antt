@@ -24,7 +24,7 @@ passedList A M B N (inl apart) = []
 passedList A M B N (inr (R, passed)) = R ∷ []
 
 pub passedList-all : (A : Term) (M : ℕ) (B : Term) (N : ℕ) (d : Apart A B ⊎ ((R : ℕ) × Pass A M B N R)) (R′ : ℕ)
-  → List·Memᴰ R′ (passedList A M B N d) ↔ Pass A M B N R′
+    → List·Memᴰ R′ (passedList A M B N d) ↔ Pass A M B N R′
 passedList-all A M B N (inl apart) R′ = (λ m. elim m [ ], λ passed. absurd (apart (passed .α) (passed .β) (passed .unifier .unifies)))
 passedList-all A M B N (inr (R, passed)) R′ = only-result (Pass A M B N) R passed (λ _ passed′. pass-unique passed′ passed) R′
 
@@ -47,4 +47,5 @@ modes-lists = record {
   passes-all = passList-all;
   joins-all = λ M N. only-result (modes .Join M N) (bitOr M N) (has-or M N) (λ R h. together-unique M N R (bitOr M N) h (has-or M N));
   keeps-all = λ P decide M. only-result (modes .Keep P M) (keptOf P decide M) (keptOf-kept P decide M) (λ R h. kept-unique P M R (keptOf P decide M) h (keptOf-kept P decide M));
-  numbers-all = λ A f M. only-result (modes .Number A f M) (renumberedOf A f M) (renumberedOf-renumbered A f M) (λ R h. renumbered-unique A f M R (renumberedOf A f M) h (renumberedOf-renumbered A f M)) }
+  numbers-all = λ A f M. only-result (modes .Number A f M) (renumberedOf A f M) (renumberedOf-renumbered A f M) (λ R h. renumbered-unique A f M R (renumberedOf A f M) h (renumberedOf-renumbered A f M));
+}
