@@ -1,2 +1,4 @@
 -- The laws that other crates cite, each module named by its subject.
 pub mod Samples
+pub mod Parts
+pub mod Taking
