@@ -2,3 +2,5 @@
 pub mod Samples
 pub mod Parts
 pub mod Taking
+pub mod AtomParts
+pub mod ClauseParts

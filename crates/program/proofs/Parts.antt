@@ -68,6 +68,12 @@ module _ (words : List ℕ) where
   meets-map value value′ (Next v after) (wrong number rest) g e m = absurd m
   meets-map value value′ (Next v after) (right a rest) g e m = (m .0 ∙ e a, m .1, m .2)
 
+  -- of what was made of a part nothing but the place after it is wanted
+  pub meets-place : {A B : Type 0} (value : A → ℕ) (v : ℕ) (after : Cursor) (r : Read A) (g : A → B)
+    → Meets words value (Next v after) r → Meets words none (Next 0 after) (next r (λ a rest. right (g a) rest))
+  meets-place value v after (wrong number rest) g m = absurd m
+  meets-place value v after (right a rest) g m = (refl, m .1, m .2)
+
   -- a place past the first part of the rest is one of the words
   pub meets-inside : {A : Type 0} (value : A → ℕ) (v : ℕ) (after : Cursor) (r : Read A) → Meets words value (Next v after) r → after .at ≤ length words
   meets-inside value v after (wrong number rest) m = absurd m

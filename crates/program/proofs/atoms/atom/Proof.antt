@@ -1,55 +1,52 @@
+-- `atom` meets its contract: the cursor's answer says where it stands; behind the predicate's number the arguments are read by `terms`.
+-- Assumes nothing.
+use mathlib.Core.Path.{sym, _∙_}
+use native.Mathlib.Omega.{arith}
+use denote.Ref.{now}
+use Rattle.program.proofs.Parts.{step-cell, step-end}
+use Rattle.program.proofs.AtomParts.{atom-end, atom-undeclared, atom-terms}
 use borrow.Author.Needs.{needs}
 use Rattle.program.proofs.atoms.atom.Statement.{statement}
 use Rattle.program.proofs.atoms.atom.Tie as tie
-use Rattle.program.proofs.atoms.atom.Reads as reads
-use Rattle.program.proofs.atoms.atom.Lts as lts
-use Rattle.program.proofs.atoms.terms.Reads as terms-reads
-use Rattle.program.proofs.part.wide.Reads as wide-reads
-use Rattle.terms.proofs.cursor.Cursor.step.Reads as step-reads
 
--- src/atoms.rt:42:11
 step-requires : tie.Need-step-requires
 step-requires c κs = search needs
 
--- src/atoms.rt:43:22
 enum-told : tie.Need-enum-told
 enum-told c = search needs
 
--- src/atoms.rt:44:20
 enum-known-w : tie.Need-enum-known-w
 enum-known-w c = search needs
 
--- src/atoms.rt:45:17
 wide-requires : tie.Need-wide-requires
 wide-requires c κs = search needs
 
--- src/atoms.rt:47:17
 returns : tie.Need-returns
-returns c = ?
+returns c = let a = c .before .before .before .before .before .before .before .before .before .args in
+    atom-undeclared (now (a .words)) (now (a .predicates)) (now (a .functions)) (a .seen) (a .from .at) _ _ (rw (← c .before .wide .ensures) at (step-cell (now (a .words)) (a .from .at) _ _ (sym (c .before .before .before .w .given .1) ∙ c .before .before .before .before .before .step .ensures))) (c .if1 .taken)
 
--- src/atoms.rt:49:48
 mul-wide : tie.Need-mul-wide
 mul-wide c = search needs
 
--- src/atoms.rt:49:48
 shared-slice-read-wide : tie.Need-shared-slice-read-wide
 shared-slice-read-wide c = search needs
 
--- src/atoms.rt:49:43
 wide-requires-2 : tie.Need-wide-requires-2
 wide-requires-2 c κs = search needs
 
--- src/atoms.rt:49:13
 terms-requires : tie.Need-terms-requires
-terms-requires c κs = ?
+terms-requires c κs = let a = c .before .before .before .before .before .before .before .before .before .before .before .args in
+    let s = (rw (← c .before .before .before .wide .ensures) at (step-cell (now (a .words)) (a .from .at) _ _ (sym (c .before .before .before .before .before .w .given .1) ∙ c .before .before .before .before .before .before .before .step .ensures))) in
+    (omega (arith, s .inside, s .on), omega (arith, c .wide2 .ensures, c .before .shared-slice-known4 .given (c .before .before .before .wide .result)))
 
--- src/atoms.rt:37:1
 returns-2 : tie.Need-returns-2
-returns-2 c = ?
+returns-2 c = let a = c .before .before .before .before .before .before .args in
+    atom-end (now (a .words)) (now (a .predicates)) (now (a .functions)) (a .seen) (a .from .at) (c .before .before .before .before .before .before .pre)
+    (step-end (now (a .words)) (a .from .at) (sym (c .enum-told .given .1) ∙ c .before .before .step .ensures))
 
--- src/atoms.rt:37:1
 returns-3 : tie.Need-returns-3
-returns-3 c = ?
+returns-3 c = let a = c .before .before .before .before .before .before .before .before .before .before .before .before .args in
+    atom-terms (now (a .words)) (now (a .predicates)) (now (a .functions)) (a .seen) (a .from .at) _ _ (c .terms .result) (rw (← c .before .before .before .before .wide .ensures) at (step-cell (now (a .words)) (a .from .at) _ _ (sym (c .before .before .before .before .before .before .w .given .1) ∙ c .before .before .before .before .before .before .before .before .step .ensures))) (c .before .before .before .if1 .left) (rw (c .before .wide2 .ensures) at (c .terms .ensures))
 
 pub atom-spec : {M : Type 1} → statement M
 atom-spec =
