@@ -1,4 +1,9 @@
 -- The laws that other crates cite, each module named by its subject.
+pub mod Samples
+pub mod Parts
+pub mod Taking
+pub mod AtomParts
+pub mod ClauseParts
 pub mod ShapeLaws
 pub mod ListLaws
 pub mod OwnShape

@@ -2,3 +2,4 @@
 pub mod Term
 pub mod Cells
 pub mod Unifier
+pub mod Cursor

@@ -1,1 +1,2 @@
 // Cells, walks, substitutions and unifiers.
+pub mod cursor;

@@ -1,0 +1,21 @@
+// The limits of an encoded program and of a table.
+
+pub const MAX_WORDS: usize = 2048;
+
+pub const MIN_PREDICATES: usize = 1;
+
+pub const MAX_DECLARED: usize = 64;
+
+pub const MAX_ARITY: usize = 8;
+
+pub const MAX_BODY: usize = 16;
+
+pub const MAX_VARIABLE: usize = 15;
+
+pub const ATOM_CELLS: usize = 32;
+
+pub const FIRST_VARIABLE: u16 = 32768;
+
+pub const GROUND_MODE: usize = 1;
+
+pub const MAX_ROWS: usize = 4096;
