@@ -7,3 +7,4 @@ pub mod ClauseParts
 pub mod ShapeLaws
 pub mod ListLaws
 pub mod OwnShape
+pub mod GoalShape

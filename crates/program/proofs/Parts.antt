@@ -70,7 +70,7 @@ module _ (words : List ℕ) where
 
   -- of what was made of a part nothing but the place after it is wanted
   pub meets-place : {A B : Type 0} (value : A → ℕ) (v : ℕ) (after : Cursor) (r : Read A) (g : A → B)
-    → Meets words value (Next v after) r → Meets words none (Next 0 after) (next r (λ a rest. right (g a) rest))
+      → Meets words value (Next v after) r → Meets words none (Next 0 after) (next r (λ a rest. right (g a) rest))
   meets-place value v after (wrong number rest) g m = absurd m
   meets-place value v after (right a rest) g m = (refl, m .1, m .2)
 
