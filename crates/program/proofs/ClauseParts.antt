@@ -42,7 +42,7 @@ module _ (words predicates functions : List ℕ) where
 
       module _ (seen : ℕ) (second : Cursor) (head-read : Meets words met (Next seen second) (atom predicates functions 0 (drop (first .at) words))) where
         pub clause-body-fault : (n p : ℕ) → Meets words met (Fault n p) (atoms predicates functions body seen (drop (second .at) words))
-          → Meets words none (Fault n p) (clause predicates functions ws)
+            → Meets words none (Fault n p) (clause predicates functions ws)
         clause-body-fault n p m =
             past-length (Fault n p)
             (meets-next words met none seen second (Fault n p) (atom predicates functions 0 (drop (first .at) words)) (behindHead body) head-read
@@ -50,7 +50,7 @@ module _ (words predicates functions : List ℕ) where
             (λ b rest′. right (record { head = h .0; body = b .0 }) rest′) (rw e at m)))
 
         pub clause-body-next : (v : ℕ) (after : Cursor) → Meets words met (Next v after) (atoms predicates functions body seen (drop (second .at) words))
-          → Meets words none (Next 0 after) (clause predicates functions ws)
+            → Meets words none (Next 0 after) (clause predicates functions ws)
         clause-body-next v after m =
             past-length (Next 0 after)
             (meets-next words met none seen second (Next 0 after) (atom predicates functions 0 (drop (first .at) words)) (behindHead body) head-read
@@ -79,8 +79,8 @@ module _ (words predicates functions : List ℕ) where
           (λ a e. meets-fault words itself none n p (bounded badGoal (a .1) (a .1) (drop (second .at) words)) (behindCount (a .0)) (rw e at m))
 
       pub goal-modes : (k : ℕ) (third : Cursor) (r : Part) → Meets words itself (Next k third) (bounded badGoal seen seen (drop (second .at) words))
-        → Meets words none r (several (bounded badGoal anyMode groundMode) k (drop (third .at) words))
-        → Meets words none r (goal predicates functions ws)
+          → Meets words none r (several (bounded badGoal anyMode groundMode) k (drop (third .at) words))
+          → Meets words none r (goal predicates functions ws)
       unfolding goal
       goal-modes k third r q m =
           meets-next words met none seen second r (atom predicates functions 0 ws) behindAtom atom-read

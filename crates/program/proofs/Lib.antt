@@ -4,3 +4,5 @@ pub mod Parts
 pub mod Taking
 pub mod AtomParts
 pub mod ClauseParts
+pub mod Words
+pub mod WholeParts

@@ -61,9 +61,9 @@ loop-less c = omega arith
 loop-again : tie.Need-loop-again Inv-loop μ-loop
 loop-again c = let a = c .before .before .before .before .before .before .before .before .before .args in
     let l = c .before .before .before .before .before .loop in
-    let m = rw (c .before .after .given .1) at (c .before .before .before .atom .ensures) in
-    ( meets-inside (now (a .words)) met _ _ (atom (now (a .predicates)) (now (a .functions)) (l .known) (drop (l .at .at) (now (a .words)))) m
-    , λ r q. l .inv .1 r (atoms-next (now (a .words)) (now (a .predicates)) (now (a .functions)) (l .left) (l .known) _ _ (drop (l .at .at) (now (a .words))) r (c .before .before .before .before .loop-test .taken) m q)
+    let m = rw (c .before .after .given .1) at (c .before .before .before .atom .ensures) in (
+      meets-inside (now (a .words)) met _ _ (atom (now (a .predicates)) (now (a .functions)) (l .known) (drop (l .at .at) (now (a .words)))) m,
+      λ r q. l .inv .1 r (atoms-next (now (a .words)) (now (a .predicates)) (now (a .functions)) (l .left) (l .known) _ _ (drop (l .at .at) (now (a .words))) r (c .before .before .before .before .loop-test .taken) m q),
     )
 
 -- src/atoms.rt:55:1

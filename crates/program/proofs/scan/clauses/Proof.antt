@@ -50,9 +50,9 @@ loop-less c = omega arith
 loop-again : tie.Need-loop-again Inv-loop μ-loop
 loop-again c = let a = c .before .before .before .before .before .before .before .before .before .args in
     let l = c .before .before .before .before .before .loop in
-    let m = rw (c .before .next .given .1) at (c .before .before .before .clause .ensures) in
-    ( meets-inside (now (a .words)) none _ _ (clause (now (a .predicates)) (now (a .functions)) (drop (l .at .at) (now (a .words)))) m
-    , λ r q. l .inv .1 r (several-next (now (a .words)) none (clause (now (a .predicates)) (now (a .functions))) (l .left) _ _ (drop (l .at .at) (now (a .words))) r (c .before .before .before .before .loop-test .taken) m q)
+    let m = rw (c .before .next .given .1) at (c .before .before .before .clause .ensures) in (
+      meets-inside (now (a .words)) none _ _ (clause (now (a .predicates)) (now (a .functions)) (drop (l .at .at) (now (a .words)))) m,
+      λ r q. l .inv .1 r (several-next (now (a .words)) none (clause (now (a .predicates)) (now (a .functions))) (l .left) _ _ (drop (l .at .at) (now (a .words))) r (c .before .before .before .before .loop-test .taken) m q),
     )
 
 returns-2 : tie.Need-returns-2 Inv-loop μ-loop
