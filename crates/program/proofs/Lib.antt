@@ -8,3 +8,5 @@ pub mod ShapeLaws
 pub mod ListLaws
 pub mod OwnShape
 pub mod GoalShape
+pub mod Words
+pub mod WholeParts

@@ -59,6 +59,11 @@ module _ (words : List ℕ) where
   meets-next value value′ v after part (wrong number rest) f m g = absurd m
   meets-next value value′ v after part (right a rest) f m g = rw (m .2) (g a (m .0))
 
+  pub meets-right : {A : Type 0} (value : A → ℕ) (v : ℕ) (after : Cursor) (r : Read A) → Meets words value (Next v after) r
+      → (a : A) × (v ≡ value a) × (after .at ≤ length words) × (r ≡ right a (drop (after .at) words))
+  meets-right value v after (wrong number rest) m = absurd m
+  meets-right value v after (right a rest) m = (a, m .0, m .1, ap (right a) (m .2))
+
   -- what is made of a part changes neither its fault nor the place after it
   pub meets-map : {A B : Type 0} (value : A → ℕ) (value′ : B → ℕ) (part : Part) (r : Read A) (g : A → B)
       → ((a : A) → value a ≡ value′ (g a))

@@ -1,33 +1,28 @@
+-- `scan` meets its contract: the answer for the whole is the reply that `faults` gives.
+-- Assumes nothing.
+use denote.Ref.{now}
+use Rattle.program.proofs.WholeParts.{scan-long, scan-fault, scan-sound}
 use borrow.Author.Needs.{needs}
 use Rattle.program.proofs.scan.scan.Statement.{statement}
 use Rattle.program.proofs.scan.scan.Tie as tie
-use Rattle.program.proofs.scan.scan.Reads as reads
-use Rattle.program.proofs.scan.scan.Lts as lts
-use Rattle.program.proofs.scan.whole.Reads as whole-reads
 
--- src/scan.rt:157:9
 returns : tie.Need-returns
-returns c = ?
+returns c = scan-long (now (c .before .before .args .words)) (c .if1 .taken)
 
--- src/scan.rt:163:11
 whole-requires : tie.Need-whole-requires
 whole-requires c κs = search needs
 
--- src/scan.rt:164:21
 enum-known-number : tie.Need-enum-known-number
 enum-known-number c = search needs
 
--- src/scan.rt:169:29
 enum-told : tie.Need-enum-told
 enum-told c = search needs
 
--- src/scan.rt:153:1
 returns-2 : tie.Need-returns-2
-returns-2 c = ?
+returns-2 c = scan-fault (now (c .before .before .before .before .before .before .args .words)) _ _ (c .before .before .before .before .if1 .left) (rw (c .before .number .given .1) at (c .before .before .before .whole .ensures))
 
--- src/scan.rt:153:1
 returns-3 : tie.Need-returns-3
-returns-3 c = ?
+returns-3 c = scan-sound (now (c .before .before .before .before .before .args .words)) _ _ (c .before .before .before .if1 .left) (rw (c .enum-told .given .1) at (c .before .before .whole .ensures))
 
 pub scan-spec : {M : Type 1} → statement M
 scan-spec =

@@ -1,66 +1,65 @@
+-- `whole` meets its contract: the answers for the three counts and for what follows go together as the definition's parts do.
+-- Assumes nothing.
+use denote.Ref.{now}
+use lib.ListN.{drop}
+use Rattle.program.specs.Limits.{minPredicates, maxDeclared}
+use Rattle.program.specs.Reply.{outOfRange}
+use Rattle.program.specs.Reading.{bounded}
+use Rattle.program.specs.Part.{itself}
+use Rattle.program.proofs.Parts.{meets-inside}
+use Rattle.program.proofs.WholeParts.{whole-first-fault, whole-second-fault, whole-third-fault, whole-declared}
 use borrow.Author.Needs.{needs}
 use Rattle.program.proofs.scan.whole.Statement.{statement}
 use Rattle.program.proofs.scan.whole.Tie as tie
-use Rattle.program.proofs.scan.whole.Reads as reads
-use Rattle.program.proofs.scan.whole.Lts as lts
-use Rattle.program.proofs.part.bounded.Reads as bounded-reads
-use Rattle.program.proofs.scan.declared.Reads as declared-reads
 
--- src/scan.rt:134:11
 bounded-requires : tie.Need-bounded-requires
 bounded-requires c κs = search needs
 
--- src/scan.rt:141:21
 enum-known-number : tie.Need-enum-known-number
 enum-known-number c = search needs
 
--- src/scan.rt:142:20
 enum-known-p : tie.Need-enum-known-p
 enum-known-p c = search needs
 
--- src/scan.rt:142:40
 bounded-requires-2 : tie.Need-bounded-requires-2
-bounded-requires-2 c κs = ?
+bounded-requires-2 c κs = let a = c .before .before .before .before .before .args in
+    meets-inside (now (a .words)) itself _ _ (bounded outOfRange minPredicates maxDeclared (now (a .words))) (rw (c .before .p .given .1) at (c .before .before .before .bounded .ensures))
 
--- src/scan.rt:143:25
 enum-known-number-2 : tie.Need-enum-known-number-2
 enum-known-number-2 c = search needs
 
--- src/scan.rt:144:24
 enum-known-f : tie.Need-enum-known-f
 enum-known-f c = search needs
 
--- src/scan.rt:144:43
 bounded-requires-3 : tie.Need-bounded-requires-3
-bounded-requires-3 c κs = ?
+bounded-requires-3 c κs = let a = c .before .before .before .before .before .before .before .before .before .args in
+    meets-inside (now (a .words)) itself _ _ (bounded outOfRange 0 maxDeclared (drop (c .before .before .before .before .before .p .given .0 .1 .0 .at) (now (a .words)))) (rw (c .before .f .given .1) at (c .before .before .before .bounded2 .ensures))
 
--- src/scan.rt:145:29
 enum-known-number-3 : tie.Need-enum-known-number-3
 enum-known-number-3 c = search needs
 
--- src/scan.rt:146:28
 enum-known-c : tie.Need-enum-known-c
 enum-known-c c = search needs
 
--- src/scan.rt:146:40
 declared-requires : tie.Need-declared-requires
-declared-requires c κs = ?
+declared-requires c κs = let a = c .before .before .before .before .before .before .before .before .before .before .before .before .before .args in
+    meets-inside (now (a .words)) itself _ _ (bounded outOfRange 0 maxDeclared (drop (c .before .before .before .before .before .f .given .0 .1 .0 .at) (now (a .words)))) (rw (c .before .c .given .1) at (c .before .before .before .bounded3 .ensures))
 
--- src/scan.rt:131:1
 returns : tie.Need-returns
-returns c = ?
+returns c = let a = c .before .before .before .before .before .args in
+    whole-first-fault (now (a .words)) _ _ (rw (c .before .number .given .1) at (c .before .before .before .bounded .ensures))
 
--- src/scan.rt:131:1
 returns-2 : tie.Need-returns-2
-returns-2 c = ?
+returns-2 c = let a = c .before .before .before .before .before .before .before .before .before .args in
+    whole-second-fault (now (a .words)) _ _ (rw (c .before .before .before .before .before .p .given .1) at (c .before .before .before .before .before .before .before .bounded .ensures)) _ _ (rw (c .before .number2 .given .1) at (c .before .before .before .bounded2 .ensures))
 
--- src/scan.rt:131:1
 returns-3 : tie.Need-returns-3
-returns-3 c = ?
+returns-3 c = let a = c .before .before .before .before .before .before .before .before .before .before .before .before .before .args in
+    whole-third-fault (now (a .words)) _ _ (rw (c .before .before .before .before .before .before .before .before .before .p .given .1) at (c .before .before .before .before .before .before .before .before .before .before .before .bounded .ensures)) _ _ (rw (c .before .before .before .before .before .f .given .1) at (c .before .before .before .before .before .before .before .bounded2 .ensures)) _ _ (rw (c .before .number3 .given .1) at (c .before .before .before .bounded3 .ensures))
 
--- src/scan.rt:131:1
 returns-4 : tie.Need-returns-4
-returns-4 c = ?
+returns-4 c = let a = c .before .before .before .before .before .before .before .before .before .before .before .before .before .before .args in
+    whole-declared (now (a .words)) _ _ (rw (c .before .before .before .before .before .before .before .before .before .before .p .given .1) at (c .before .before .before .before .before .before .before .before .before .before .before .before .bounded .ensures)) _ _ (rw (c .before .before .before .before .before .before .f .given .1) at (c .before .before .before .before .before .before .before .before .bounded2 .ensures)) _ _ (c .declared .result) (rw (c .before .before .c .given .1) at (c .before .before .before .before .bounded3 .ensures)) (c .declared .ensures)
 
 pub whole-spec : {M : Type 1} → statement M
 whole-spec =
