@@ -6,3 +6,4 @@ pub mod TableCovers
 pub mod GroundCalls
 pub mod LegsRun
 pub mod WrongTable
+pub mod NoClauses

@@ -8,11 +8,14 @@ use mathlib.Core.List.{List, [], _∷_, List·Memᴰ, List·Memᴰ·head, List·
 use Rattle.terms.specs.Term.{Term, var, app, nil, Subst}
 use Rattle.marks.specs.Mask.{Has}
 use Rattle.marks.specs.Modes.{modes}
+use Rattle.marks.proofs.Modes.{modes-sound}
 use Rattle.program.specs.Program.{here, there}
 use Rattle.table.specs.Rules.{Row, call, cont, solution}
-use Rattle.table.proofs.Samples.{one, two, late}
+use Rattle.table.specs.Rounds.{Least}
+use Rattle.table.proofs.Samples.{one, two, late, late-rows, late-least}
 use Rattle.runs.specs.Run.{atom, end, InSight, Finite, Step, put, start, step, Called}
 use Rattle.runs.specs.Cover.{CoversRuns}
+use Rattle.runs.proofs.TableCovers.{covers-within, least-covers-runs}
 use Rattle.runs.proofs.GroundCalls.{covered-ground}
 
 -- the rows of *Late call* but `call 1 0`
@@ -73,3 +76,9 @@ unfolding ℕ-discrete
 wrong-table-fails covers =
     let (M, row, by) = covers .calls 1 1 (two 1 (var 1) (var 2)) late-called in
     covered-ground late 1 M (two 1 (var 1) (var 2)) (two 1 (var 0) (var 1)) (λ v. var (suc v)) 0 by (there here) refl (inl refl) (wrong-marks-first M row)
+
+-- the right table covers
+pub late-table-covers : CoversRuns modes late 1 (λ row. List·Memᴰ row late-rows)
+unfolding ℕ-discrete
+late-table-covers =
+    covers-within modes late 1 (Least modes late 1) (λ row. List·Memᴰ row late-rows) (λ row. late-least row .0) (least-covers-runs modes modes-sound late 1 refl)

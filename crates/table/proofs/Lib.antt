@@ -7,3 +7,4 @@ pub mod Computed
 pub mod ComputedLaws
 pub mod ModesComputed
 pub mod Samples
+pub mod NoClauses
