@@ -1,20 +1,20 @@
 -- The goal of every program that the fault scan accepts is its own shape: its variables are numbered from 0 by first appearance.
-use Prim.Native.Nat.{ℕ, zero, suc, _+_, _-_, _≤_, _<_}
+use Prim.Native.Nat.{ℕ, zero, suc, _+_, _-_, _≤_}
 use native.Mathlib.Omega.{arith}
 use native.Mathlib.Decide.{ℕ-discrete}
-use mathlib.Core.Path.{_≡_, refl, sym, ap, _∙_}
-use mathlib.Core.Bool.{Bool, true, false}
+use mathlib.Core.Path.{_≡_, refl, _∙_}
+use mathlib.Core.Bool.{true, false}
 use mathlib.Core.List.{List, [], _∷_}
 use lib.ListN.{length, getD}
 use lib.Dec.{ltb}
 use borrow.Author.Tests.{ltb-true, ltb-false}
-use Rattle.terms.specs.Term.{Term, Terms, var, app, nil, cons}
+use Rattle.terms.specs.Term.{Term, Terms, app, nil, cons}
 use Rattle.terms.specs.Cells.{firstVariable, atomCells}
 use Rattle.program.specs.Limits.{maxWords, maxVariable, minPredicates, maxDeclared, anyMode, groundMode}
 use Rattle.program.specs.Reply.{outOfRange, badGoal, badVariable, longAtom, undeclared, tooLong}
 use Rattle.program.specs.Reading.{Read, wrong, right, next, pick, bounded, several}
-use Rattle.program.specs.Atoms.{meet, variableOf, symbolOf, cellOf, firsts, others, build, opened, terms, atom}
-use Rattle.program.specs.Faults.{maskOf, goal, ended, arities, clause, written, declared, whole, Found, fault, sound, foundIn, faults}
+use Rattle.program.specs.Atoms.{meet, variableOf, symbolOf, cellOf, firsts, others, opened, terms, atom}
+use Rattle.program.specs.Faults.{goal, ended, arities, clause, written, declared, whole, Found, fault, sound, foundIn, faults}
 use Rattle.program.specs.Program.{Program}
 use Rattle.program.specs.Shapes.{with, met, mets, shapeOf}
 use Rattle.program.specs.declared.cells.Cell.{Cell}

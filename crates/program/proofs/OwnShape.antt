@@ -1,13 +1,12 @@
 -- An atom whose variables are numbered from 0 by first appearance is its own shape.
-use Prim.Native.Nat.{ℕ, zero, suc, _+_, _≤_, _<_}
+use Prim.Native.Nat.{ℕ, zero, suc, _<_}
 use native.Mathlib.Omega.{arith}
-use native.Mathlib.Numerals.{add-one}
 use native.Mathlib.Decide.{ℕ-discrete, decLt}
-use mathlib.Core.Path.{_≡_, refl, sym, ap, _∙_}
+use mathlib.Core.Path.{_≡_, refl, ap, _∙_}
 use mathlib.Core.Logic.{_⊎_, inl, inr}
 use mathlib.Core.List.{List, [], _∷_, _++_, List·Memᴰ, List·Memᴰ·head, List·Memᴰ·tail, List·Memᴰ·cases-cons, List·Memᴰ·append-cases, List·Memᴰ·eq-of-singleton, Memᴰ·append-left, Memᴰ·append-right}
 use lib.ListN.{length, length-append}
-use Rattle.terms.specs.Term.{Term, var, sub, Occ}
+use Rattle.terms.specs.Term.{Term, var, Occ}
 use Rattle.terms.proofs.Substs.{sub-agree, sub-var}
 use Rattle.program.specs.Shapes.{place, with, met, number, shapeOf}
 use Rattle.program.proofs.ShapeLaws.{met-has}

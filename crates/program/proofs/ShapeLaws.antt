@@ -2,10 +2,10 @@
 use Prim.Native.Nat.{ℕ, zero, suc}
 use mathlib.Core.Path.{_≡_, refl, sym, ap, _∙_}
 use mathlib.Core.Logic.{_⊎_, inl, inr}
-use mathlib.Core.List.{List, [], _∷_, _++_, map, List·Memᴰ, List·Memᴰ·head, List·Memᴰ·tail, List·Memᴰ·cases-cons, Memᴰ·append-left, Memᴰ·append-right}
+use mathlib.Core.List.{List, [], _∷_, map, List·Memᴰ, List·Memᴰ·head, List·Memᴰ·tail, List·Memᴰ·cases-cons, Memᴰ·append-left, Memᴰ·append-right}
 use lib.ListN.{getD}
 use native.Mathlib.Decide.{ℕ-discrete}
-use Rattle.terms.specs.Term.{Term, Terms, sameTerm, var, app, nil, cons, Subst, sub, subs, comp, Occ, Occs}
+use Rattle.terms.specs.Term.{Term, Terms, sameTerm, var, app, nil, cons, Subst, sub, Occ, Occs}
 use Rattle.terms.proofs.Substs.{sub-comp, sub-agree}
 use Rattle.program.specs.Program.{Nth, here, there, Clause, Program, bodies}
 use Rattle.program.specs.Shapes.{place, with, met, mets, number, shapeOf, distinct, shapes, shapeNumber}

@@ -9,7 +9,7 @@ use Rattle.marks.proofs.Modes.{modes-sound}
 use Rattle.program.specs.Program.{Nth, Program}
 use Rattle.program.specs.Shapes.{shapes, shapeOf}
 use Rattle.program.proofs.ShapeLaws.{nth-same}
-use Rattle.table.specs.Rules.{Row, call, solution}
+use Rattle.table.specs.Rules.{call, solution}
 use Rattle.table.specs.Rounds.{Least}
 use Rattle.runs.specs.Run.{Called, Solved}
 use Rattle.runs.specs.Cover.{Covered}

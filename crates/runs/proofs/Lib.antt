@@ -7,3 +7,4 @@ pub mod GroundCalls
 pub mod LegsRun
 pub mod WrongTable
 pub mod NoClauses
+pub mod AcceptedRuns

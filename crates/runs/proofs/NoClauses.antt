@@ -1,6 +1,6 @@
 -- "A predicate without clauses never has a solution": what is solved in a run is an instance of a clause's head.
-use Prim.Native.Nat.{ℕ, suc}
-use mathlib.Core.Path.{_≡_, refl, sym, ap, _∙_}
+use Prim.Native.Nat.{ℕ}
+use mathlib.Core.Path.{_≡_, sym, ap, _∙_}
 use mathlib.Core.List.{List, [], _∷_, _++_}
 use Rattle.terms.specs.Term.{Term, Terms, app, Subst, sub, comp}
 use Rattle.terms.proofs.Substs.{sub-comp}

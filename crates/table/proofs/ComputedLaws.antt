@@ -4,7 +4,7 @@ use native.Mathlib.Decide.{ℕ-discrete}
 use native.Mathlib.Omega.{arith}
 use mathlib.Core.Path.{_≡_, refl, subst}
 use mathlib.Core.Logic.{_⊎_, inl, inr, _↔_}
-use mathlib.Core.List.{List, [], _∷_, _++_, map, List·Memᴰ, List·Memᴰ·head, List·Memᴰ·tail, List·Memᴰ·eq-of-singleton, List·Memᴰ·append-cases, Memᴰ·append-left, Memᴰ·append-right}
+use mathlib.Core.List.{List, [], _++_, map, List·Memᴰ, List·Memᴰ·head, List·Memᴰ·eq-of-singleton, List·Memᴰ·append-cases, Memᴰ·append-left, Memᴰ·append-right}
 use lib.ListN.{length}
 use Rattle.terms.specs.Term.{Term}
 use Rattle.terms.proofs.Variables.{decided-for}
@@ -14,8 +14,8 @@ use Rattle.program.specs.Shapes.{shapes, shapeNumber, number, Listed}
 use Rattle.program.proofs.ShapeLaws.{map-has}
 use Rattle.program.proofs.ListLaws.{listed-decided}
 use Rattle.table.specs.Rules.{Row, call, cont, solution, Row-discrete, Reached, first, next, Gives, calls, conts, solves}
-use Rattle.table.specs.Rounds.{At, First, Closed, Least}
-use Rattle.table.proofs.Lists.{each, each-has, has-each, has-map, at, at-has, has-at, places, places-has, behind, behind-keeps, behind-has, has-behind, member-decided}
+use Rattle.table.specs.Rounds.{At, First, Least}
+use Rattle.table.proofs.Lists.{each, each-has, has-each, has-map, at, at-has, has-at, places, places-has, behind-keeps, behind-has, has-behind, member-decided}
 use Rattle.table.proofs.Computed.{Lists, onCall, onCont, onSolution, Arrival, firsts, nexts, arrivals, goes, ends, leads, given, grown, rowsAt}
 use Rattle.table.proofs.RuleLaws.{Within, gives-within}
 use Rattle.table.proofs.RoundLaws.{rounds-grow, least-at}

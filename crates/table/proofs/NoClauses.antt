@@ -1,14 +1,12 @@
 -- "A predicate without clauses never has a solution": the table has no solution row for it.
 use Prim.Native.Nat.{ℕ}
-use native.Mathlib.Omega.{arith}
 use mathlib.Core.Path.{_≡_, refl, sym, ap, _∙_}
-use Rattle.terms.specs.Term.{Term, Terms, app, Subst, sub, subs}
-use Rattle.marks.specs.Domain.{Domain}
+use Rattle.terms.specs.Term.{Terms, app, Subst, sub, subs}
 use Rattle.marks.specs.Modes.{modes}
 use Rattle.program.specs.Program.{Nth, Clause, Program}
 use Rattle.program.specs.Shapes.{shapes}
 use Rattle.program.proofs.ShapeLaws.{nth-same}
-use Rattle.table.specs.Rules.{Row, call, cont, solution, Gives, calls, conts, solves}
+use Rattle.table.specs.Rules.{Row, call, cont, solution, calls, conts, solves}
 use Rattle.table.specs.Rounds.{Closed, Least}
 
 -- each clause's head has another predicate
