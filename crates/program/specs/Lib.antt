@@ -4,5 +4,6 @@ pub mod Reply
 pub mod Program
 pub mod Reading
 pub mod Atoms
+pub mod Part
 pub mod Faults
 pub mod Shapes
