@@ -6,3 +6,5 @@ pub mod AtomParts
 pub mod ClauseParts
 pub mod Words
 pub mod WholeParts
+pub mod TermWords
+pub mod WordsOfTerms
