@@ -8,3 +8,7 @@ pub mod Words
 pub mod WholeParts
 pub mod TermWords
 pub mod WordsOfTerms
+pub mod AtomWords
+pub mod Modes
+pub mod ClauseWords
+pub mod ProgramWords
