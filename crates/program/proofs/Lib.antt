@@ -10,3 +10,9 @@ pub mod OwnShape
 pub mod GoalShape
 pub mod Words
 pub mod WholeParts
+pub mod TermWords
+pub mod WordsOfTerms
+pub mod AtomWords
+pub mod Modes
+pub mod ClauseWords
+pub mod ProgramWords

@@ -8,12 +8,8 @@ use lib.ListN.{length, take, drop, length-append, length-drop}
 use lib.Seq.{take-at}
 use lib.Dec.{leb}
 use borrow.Author.Tests.{leb-true, le-leb}
+use Rattle.program.specs.Within.{Each, none, more}
 use Rattle.program.specs.Reading.{Read, wrong, right, next, pick, bounded, several}
-
--- every word of the list is within the bound
-pub data Each (P : ℕ → Type 0) : List ℕ → Type 0 where
-  none : Each P []
-  more : {w : ℕ} {ws : List ℕ} → P w → Each P ws → Each P (w ∷ ws)
 
 -- what two parts come to, come to one after the other
 pub next-right : {A B : Type 0} (r : Read A) (f : A → List ℕ → Read B) (b : B) (rest : List ℕ) → next r f ≡ right b rest

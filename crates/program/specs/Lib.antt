@@ -6,4 +6,5 @@ pub mod Reading
 pub mod Atoms
 pub mod Part
 pub mod Faults
+pub mod Within
 pub mod Shapes
