@@ -16,5 +16,6 @@ pub mod Replacing
 pub mod Standings
 pub mod Binding
 pub mod Joining
+pub mod Bound
 pub mod Standing
 pub mod Stores
