@@ -17,5 +17,6 @@ pub mod Standings
 pub mod Binding
 pub mod Joining
 pub mod Bound
+pub mod Weight
 pub mod Standing
 pub mod Stores
