@@ -40,53 +40,55 @@ bound-same b σ c F x t e τ s =
 
 -- an outcome for terms is one for terms that every solution makes the same
 pub outcome-for : (F a b places sets : List ℕ) (ss ts ss′ ts′ : Terms) (r : Bool) (places′ sets′ : List ℕ)
-  → ((σ : Subst) → Kept F a b places sets σ → (τ : Subst) → Solves σ τ → (subs ss τ ≡ subs ts τ) ↔ (subs ss′ τ ≡ subs ts′ τ))
-  → Outcome F a b places sets ss ts r places′ sets′ → Outcome F a b places sets ss′ ts′ r places′ sets′
+    → ((σ : Subst) → Kept F a b places sets σ → (τ : Subst) → Solves σ τ → (subs ss τ ≡ subs ts τ) ↔ (subs ss′ τ ≡ subs ts′ τ))
+    → Outcome F a b places sets ss ts r places′ sets′ → Outcome F a b places sets ss′ ts′ r places′ sets′
 outcome-for F a b places sets ss ts ss′ ts′ true places′ sets′ same o σ K =
     let j = o σ K in
     record {
       after = j .after;
       kept = j .kept;
-      solves = λ τ.
-        ( (λ h. let q = j .solves τ .0 h in (q .0, same σ K τ (q .0) .0 (q .1)))
-        , (λ h. j .solves τ .1 (h .0, same σ K τ (h .0) .1 (h .1))));
-      fewer = j .fewer
+      solves = λ τ. (
+        (λ h. let q = j .solves τ .0 h in (q .0, same σ K τ (q .0) .0 (q .1))),
+        (λ h. j .solves τ .1 (h .0, same σ K τ (h .0) .1 (h .1))),
+      );
+      fewer = j .fewer;
     }
 outcome-for F a b places sets ss ts ss′ ts′ false places′ sets′ same o σ K = λ τ s e. o σ K τ s (same σ K τ s .1 e)
 
 -- terms that are the same under every solution: nothing to do
 pub outcome-same : (F a b places sets : List ℕ) (ss ts : Terms)
-  → ((σ : Subst) → Kept F a b places sets σ → (τ : Subst) → Solves σ τ → subs ss τ ≡ subs ts τ)
-  → Outcome F a b places sets ss ts true places sets
+    → ((σ : Subst) → Kept F a b places sets σ → (τ : Subst) → Solves σ τ → subs ss τ ≡ subs ts τ)
+    → Outcome F a b places sets ss ts true places sets
 outcome-same F a b places sets ss ts same σ K =
     record {
       after = σ;
       kept = K;
       solves = λ τ. (λ s. (s, same σ K τ s), λ h. h .0);
-      fewer = inr (refl, refl)
+      fewer = inr (refl, refl);
     }
 
 -- a first pair, and then the others
 pub outcome-then : (F a b places sets : List ℕ) (s t : Term) (ss ts : Terms) (places′ sets′ : List ℕ) (r : Bool) (places″ sets″ : List ℕ)
-  → Outcome F a b places sets (cons s nil) (cons t nil) true places′ sets′
-  → Outcome F a b places′ sets′ ss ts r places″ sets″
-  → Outcome F a b places sets (cons s ss) (cons t ts) r places″ sets″
+    → Outcome F a b places sets (cons s nil) (cons t nil) true places′ sets′
+    → Outcome F a b places′ sets′ ss ts r places″ sets″
+    → Outcome F a b places sets (cons s ss) (cons t ts) r places″ sets″
 outcome-then F a b places sets s t ss ts places′ sets′ true places″ sets″ o o′ σ K =
     let j = o σ K in
     let k = o′ (j .after) (j .kept) in
     record {
       after = k .after;
       kept = k .kept;
-      solves = λ τ.
-        ( (λ h.
+      solves = λ τ. (
+        (λ h.
             let q = k .solves τ .0 h in
             let w = j .solves τ .0 (q .0) in
             let e : sub s τ ≡ sub t τ = first-same (w .1) in
-            (w .0, ap₂ cons e (q .1)))
-        , (λ h.
+            (w .0, ap₂ cons e (q .1))),
+        (λ h.
             let e : sub s τ ≡ sub t τ = first-same (h .1) in
-            k .solves τ .1 (j .solves τ .1 (h .0, ap (λ (u : Term). cons u nil) e), others-same (h .1))));
-      fewer = go (j .fewer) (k .fewer)
+            k .solves τ .1 (j .solves τ .1 (h .0, ap (λ (u : Term). cons u nil) e), others-same (h .1))),
+      );
+      fewer = go (j .fewer) (k .fewer);
     }
   where
     first-same : {u w : Term} {us ws : Terms} → cons u us ≡ cons w ws → u ≡ w
@@ -96,7 +98,7 @@ outcome-then F a b places sets s t ss ts places′ sets′ true places″ sets�
     others-same e = cc
 
     go : (free places′ < free places) ⊎ ((places′ ≡ places) × (sets′ ≡ sets)) → (free places″ < free places′) ⊎ ((places″ ≡ places′) × (sets″ ≡ sets′))
-      → (free places″ < free places) ⊎ ((places″ ≡ places) × (sets″ ≡ sets))
+        → (free places″ < free places) ⊎ ((places″ ≡ places) × (sets″ ≡ sets))
     go (inl p) (inl q) = inl (omega arith)
     go (inl p) (inr q) = inl (rw (q .0) p)
     go (inr p) (inl q) = inl (rw (p .0) at q)
@@ -113,7 +115,7 @@ outcome-then F a b places sets s t ss ts places′ sets′ false places″ sets�
 
 -- a first pair that no solution makes equal
 pub outcome-parted : (F a b places sets : List ℕ) (s t : Term) (ss ts : Terms) (places′ sets′ places″ sets″ : List ℕ)
-  → Outcome F a b places sets (cons s nil) (cons t nil) false places′ sets′ → Outcome F a b places sets (cons s ss) (cons t ts) false places″ sets″
+    → Outcome F a b places sets (cons s nil) (cons t nil) false places′ sets′ → Outcome F a b places sets (cons s ss) (cons t ts) false places″ sets″
 outcome-parted F a b places sets s t ss ts places′ sets′ places″ sets″ o σ K τ h e =
     let q : sub s τ ≡ sub t τ = cc in
     o σ K τ h (ap (λ (u : Term). cons u nil) q)

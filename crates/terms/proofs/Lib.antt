@@ -18,5 +18,7 @@ pub mod Binding
 pub mod Joining
 pub mod Bound
 pub mod Weight
+pub mod Comparing
+pub mod GoingOn
 pub mod Standing
 pub mod Stores

@@ -54,12 +54,12 @@ cells-on a b p k short within = go (decLt p secondAtom)
   where
     go : Dec (p < secondAtom) → cellsAt a b (p + k) ≡ drop k (cellsAt a b p)
     go (yes h) =
-      let w : k ≤ length (drop p a) = rw (cells-first a b p h) at within in
-      let e = length-drop p a in
-      rw (cells-first a b p h, cells-first a b (p + k) (omega arith), drop-drop) refl
+        let w : k ≤ length (drop p a) = rw (cells-first a b p h) at within in
+        let e = length-drop p a in
+        rw (cells-first a b p h, cells-first a b (p + k) (omega arith), drop-drop) refl
     go (no h) =
-      let e : p + k - secondAtom ≡ p - secondAtom + k = omega arith in
-      rw (cells-second a b p (omega arith), cells-second a b (p + k) (omega arith), drop-drop, e) refl
+        let e : p + k - secondAtom ≡ p - secondAtom + k = omega arith in
+        rw (cells-second a b p (omega arith), cells-second a b (p + k) (omega arith), drop-drop, e) refl
 
 -- still in the same atom
 pub base-on : (a b : List ℕ) (p k : ℕ) → length a ≤ atomCells → k ≤ length (cellsAt a b p) → baseOf (p + k) ≡ baseOf p
@@ -67,9 +67,9 @@ base-on a b p k short within = go (decLt p secondAtom)
   where
     go : Dec (p < secondAtom) → baseOf (p + k) ≡ baseOf p
     go (yes h) =
-      let w : k ≤ length (drop p a) = rw (cells-first a b p h) at within in
-      let e = length-drop p a in
-      rw (lt-ltb p secondAtom h, lt-ltb (p + k) secondAtom (omega arith)) refl
+        let w : k ≤ length (drop p a) = rw (cells-first a b p h) at within in
+        let e = length-drop p a in
+        rw (lt-ltb p secondAtom h, lt-ltb (p + k) secondAtom (omega arith)) refl
     go (no h) = rw (le-ltb p secondAtom (omega arith), le-ltb (p + k) secondAtom (omega arith)) refl
 
 -- the store's number of a variable's cell
@@ -113,43 +113,43 @@ next-term F a b p n short r = go (r .terms) (r .cut) (r .keeps) (r .many)
     go : (ts : Terms) → cellsAt a b p ≡ encs ts ++ r .rest → Keepss F ts → count ts ≡ suc n → Next F a b p n
     go nil e k m = absurd (omega arith)
     go (cons t ts) e k m =
-      let e₁ : cellsAt a b p ≡ enc t ++ (encs ts ++ r .rest) = e ∙ append-assoc (enc t) (encs ts) (r .rest) in
-      let one : Run F (cellsAt a b p) 1 =
+        let e₁ : cellsAt a b p ≡ enc t ++ (encs ts ++ r .rest) = e ∙ append-assoc (enc t) (encs ts) (r .rest) in
+        let one : Run F (cellsAt a b p) 1 =
         record { terms = cons t nil; rest = encs ts ++ r .rest; cut = e₁ ∙ ap (λ (l : List ℕ). l ++ (encs ts ++ r .rest)) (sym (append-nil (enc t))); keeps = (k .0, tt); many = refl } in
-      let all : Run F (cellsAt a b p) (suc n) = record { terms = cons t ts; rest = r .rest; cut = e; keeps = k; many = m } in
-      let long : cellsOf F (cellsAt a b p) 1 ≡ length (enc t) =
+        let all : Run F (cellsAt a b p) (suc n) = record { terms = cons t ts; rest = r .rest; cut = e; keeps = k; many = m } in
+        let long : cellsOf F (cellsAt a b p) 1 ≡ length (enc t) =
         ap (λ (us : Terms). length (encs us)) (run-terms F (cellsAt a b p) 1 one) ∙ ap length (append-nil (enc t)) in
-      let within : cellsOf F (cellsAt a b p) 1 ≤ length (cellsAt a b p) = run-within F (cellsAt a b p) 1 one in
-      let behind : cellsAt a b (p + cellsOf F (cellsAt a b p) 1) ≡ encs ts ++ r .rest =
+        let within : cellsOf F (cellsAt a b p) 1 ≤ length (cellsAt a b p) = run-within F (cellsAt a b p) 1 one in
+        let behind : cellsAt a b (p + cellsOf F (cellsAt a b p) 1) ≡ encs ts ++ r .rest =
         cells-on a b p (cellsOf F (cellsAt a b p) 1) short within ∙ ap₂ drop long e₁ ∙ drop-append-seam (enc t) (encs ts ++ r .rest) in
-      let rest-run : Run F (cellsAt a b (p + cellsOf F (cellsAt a b p) 1)) n =
+        let rest-run : Run F (cellsAt a b (p + cellsOf F (cellsAt a b p) 1)) n =
         record { terms = ts; rest = r .rest; cut = behind; keeps = k .1; many = omega (arith, m) } in
-      let first : takeTerms (suc n) (termsAt F a b p) ≡ cons (sub t (λ v. var (baseOf p + v))) (kept-apart p ts) = terms-at-run F a b p (suc n) all in
-      let stands : firstTerm (termsAt F a b p) ≡ sub t (λ v. var (baseOf p + v)) = take-first n (termsAt F a b p) (kept-apart p ts) _ first in
-      let later : takeTerms n (termsAt F a b (p + cellsOf F (cellsAt a b p) 1)) ≡ kept-apart p ts =
+        let first : takeTerms (suc n) (termsAt F a b p) ≡ cons (sub t (λ v. var (baseOf p + v))) (kept-apart p ts) = terms-at-run F a b p (suc n) all in
+        let stands : firstTerm (termsAt F a b p) ≡ sub t (λ v. var (baseOf p + v)) = take-first n (termsAt F a b p) (kept-apart p ts) _ first in
+        let later : takeTerms n (termsAt F a b (p + cellsOf F (cellsAt a b p) 1)) ≡ kept-apart p ts =
         terms-at-run F a b (p + cellsOf F (cellsAt a b p) 1) n rest-run
         ∙ ap (λ (k : ℕ). subs ts (λ v. var (k + v))) (base-on a b p (cellsOf F (cellsAt a b p) 1) short within) in
-      record {
-        term = t;
-        keeps = k .0;
-        stands = stands;
-        cut = ap₂ take long e₁ ∙ take-append-seam (enc t) (encs ts ++ r .rest);
-        long = long;
-        alone = one;
-        others = rest-run;
-        together = first ∙ ap₂ cons (sym stands) (sym later);
-        first-alone = terms-at-run F a b p 1 one ∙ ap (λ (u : Term). cons u nil) (sym stands)
-      }
+        record {
+          term = t;
+          keeps = k .0;
+          stands = stands;
+          cut = ap₂ take long e₁ ∙ take-append-seam (enc t) (encs ts ++ r .rest);
+          long = long;
+          alone = one;
+          others = rest-run;
+          together = first ∙ ap₂ cons (sym stands) (sym later);
+          first-alone = terms-at-run F a b p 1 one ∙ ap (λ (u : Term). cons u nil) (sym stands);
+        }
 
 -- what the cell at a place says of the term there
 pub data Seen (F a b : List ℕ) (p : ℕ) : Type 0 where
   a-variable : firstVariable ≤ getD (cellsAt a b p) 0 0 → getD (cellsAt a b p) 0 0 < 32784
-    → firstTerm (termsAt F a b p) ≡ var (variableAt p (getD (cellsAt a b p) 0 0))
-    → variableAt p (getD (cellsAt a b p) 0 0) < 32 → Seen F a b p
+      → firstTerm (termsAt F a b p) ≡ var (variableAt p (getD (cellsAt a b p) 0 0))
+      → variableAt p (getD (cellsAt a b p) 0 0) < 32 → Seen F a b p
   a-function : getD (cellsAt a b p) 0 0 < firstVariable → getD (cellsAt a b p) 0 0 < length F
-    → Run F (cellsAt a b (p + 1)) (getD F (getD (cellsAt a b p) 0 0) 0)
-    → firstTerm (termsAt F a b p) ≡ app (getD (cellsAt a b p) 0 0) (takeTerms (getD F (getD (cellsAt a b p) 0 0) 0) (termsAt F a b (p + 1)))
-    → Seen F a b p
+      → Run F (cellsAt a b (p + 1)) (getD F (getD (cellsAt a b p) 0 0) 0)
+      → firstTerm (termsAt F a b p) ≡ app (getD (cellsAt a b p) 0 0) (takeTerms (getD F (getD (cellsAt a b p) 0 0) 0) (termsAt F a b (p + 1)))
+      → Seen F a b p
 
 pub seen : (F a b : List ℕ) (p : ℕ) → length a ≤ atomCells → Run F (cellsAt a b p) 1 → Seen F a b p
 seen F a b p short r = go (r .terms) (r .cut) (r .keeps) (r .many) r
@@ -157,26 +157,26 @@ seen F a b p short r = go (r .terms) (r .cut) (r .keeps) (r .many) r
     go : (ts : Terms) → cellsAt a b p ≡ encs ts ++ r .rest → Keepss F ts → count ts ≡ 1 → Run F (cellsAt a b p) 1 → Seen F a b p
     go nil e k m w = absurd (omega arith)
     go (cons (var v) ts) e k m w =
-      let c : getD (cellsAt a b p) 0 0 ≡ firstVariable + v = ap (λ (l : List ℕ). getD l 0 0) e in
-      let n : variableAt p (firstVariable + v) ≡ baseOf p + v = variable-number p v in
-      let s : firstTerm (termsAt F a b p) ≡ var (baseOf p + v) =
+        let c : getD (cellsAt a b p) 0 0 ≡ firstVariable + v = ap (λ (l : List ℕ). getD l 0 0) e in
+        let n : variableAt p (firstVariable + v) ≡ baseOf p + v = variable-number p v in
+        let s : firstTerm (termsAt F a b p) ≡ var (baseOf p + v) =
         take-first 0 (termsAt F a b p) (kept-apart p ts) _
         (terms-at-run F a b p 1 (record { terms = cons (var v) ts; rest = r .rest; cut = e; keeps = k; many = m })) in
-      a-variable (omega arith) (omega (arith, k .0)) (s ∙ ap var (sym n ∙ ap (variableAt p) (sym c)))
-      (rw (c, n) (omega (arith, base-small p, k .0)))
+        a-variable (omega arith) (omega (arith, k .0)) (s ∙ ap var (sym n ∙ ap (variableAt p) (sym c)))
+        (rw (c, n) (omega (arith, base-small p, k .0)))
     go (cons (app f us) ts) e k m w =
-      let c : getD (cellsAt a b p) 0 0 ≡ f = ap (λ (l : List ℕ). getD l 0 0) e in
-      let some : 1 ≤ length (cellsAt a b p) = run-cell F (cellsAt a b p) 1 (λ z. omega arith) w in
-      let behind : cellsAt a b (p + 1) ≡ encs us ++ (encs ts ++ r .rest) =
+        let c : getD (cellsAt a b p) 0 0 ≡ f = ap (λ (l : List ℕ). getD l 0 0) e in
+        let some : 1 ≤ length (cellsAt a b p) = run-cell F (cellsAt a b p) 1 (λ z. omega arith) w in
+        let behind : cellsAt a b (p + 1) ≡ encs us ++ (encs ts ++ r .rest) =
         cells-on a b p 1 short some ∙ ap (drop 1) e ∙ append-assoc (encs us) (encs ts) (r .rest) in
-      let run : Run F (cellsAt a b (p + 1)) (getD F f 0) =
+        let run : Run F (cellsAt a b (p + 1)) (getD F f 0) =
         record { terms = us; rest = encs ts ++ r .rest; cut = behind; keeps = k .0 .3; many = k .0 .2 } in
-      let s : firstTerm (termsAt F a b p) ≡ app f (kept-apart p us) =
+        let s : firstTerm (termsAt F a b p) ≡ app f (kept-apart p us) =
         take-first 0 (termsAt F a b p) (kept-apart p ts) _
         (terms-at-run F a b p 1 (record { terms = cons (app f us) ts; rest = r .rest; cut = e; keeps = k; many = m })) in
-      let t : takeTerms (getD F f 0) (termsAt F a b (p + 1)) ≡ kept-apart p us =
+        let t : takeTerms (getD F f 0) (termsAt F a b (p + 1)) ≡ kept-apart p us =
         terms-at-run F a b (p + 1) (getD F f 0) run ∙ ap (λ (x : ℕ). subs us (λ v. var (x + v))) (base-on a b p 1 short some) in
-      a-function (rw c (k .0 .1)) (rw c (k .0 .0)) (rw c run) (rw c (s ∙ ap (app f) (sym t)))
+        a-function (rw c (k .0 .1)) (rw c (k .0 .0)) (rw c run) (rw c (s ∙ ap (app f) (sym t)))
 
 -- a term that stands at a place has a cell there
 pub cell-at : (F a b : List ℕ) (p : ℕ) → length a ≤ atomCells → Run F (cellsAt a b p) 1 → CellAt a b p

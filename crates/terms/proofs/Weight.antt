@@ -39,6 +39,7 @@ all-steps-some (more d ds) = omega (arith, steps-some d)
 -- with enough steps allowed it is the number of steps that it takes
 mutual
   unfolding reach
+
   pub reach-steps : {b : Bindings} {t u : Term} (d : Stands b t u) (k : ℕ) → steps d ≤ k → reach k b t ≡ steps d
   reach-steps (unbound e) zero h = absurd (omega arith)
   reach-steps (unbound e) (suc k) h = (rw e refl)
@@ -52,7 +53,7 @@ mutual
   reach-all-steps done (suc k) h = refl
   reach-all-steps (more d ds) zero h = absurd (omega (arith, steps-some d))
   reach-all-steps (more d ds) (suc k) h =
-    (ap₂ _+_ (reach-steps d k (omega (arith, all-steps-some ds))) (reach-all-steps ds k (omega (arith, steps-some d))))
+      (ap₂ _+_ (reach-steps d k (omega (arith, all-steps-some ds))) (reach-all-steps ds k (omega (arith, steps-some d))))
 
 -- however it is found, it takes as many steps
 steps-once : {b : Bindings} {t u w : Term} (d : Stands b t u) (e : Stands b t w) → steps d ≡ steps e
@@ -85,69 +86,69 @@ weight places b ss ts = free places * factor + (reach-all enough b ss + reach-al
 module _ (F a b places sets : List ℕ) (σ : Subst) (K : Kept F a b places sets σ) where
   -- what terms of an atom stand for is found in fewer steps than are tried
   found-all : (ts : Terms) → length (encs ts) ≤ atomCells
-    → (reach-all enough (bound F a b places) ts ≡ stepsAll (stand-subs (bound F a b places) σ (most (32 - free places)) (K .full) ts .0))
-    × (reach-all enough (bound F a b places) ts ≤ enough)
+      → (reach-all enough (bound F a b places) ts ≡ stepsAll (stand-subs (bound F a b places) σ (most (32 - free places)) (K .full) ts .0))
+      × (reach-all enough (bound F a b places) ts ≤ enough)
   unfolding enough
   found-all ts h =
-    let r = stand-subs (bound F a b places) σ (most (32 - free places)) (K .full) ts in
-    let m : stepsAll (r .0) ≤ suc (atomCells * suc (suc (most 32))) =
+      let r = stand-subs (bound F a b places) σ (most (32 - free places)) (K .full) ts in
+      let m : stepsAll (r .0) ≤ suc (atomCells * suc (suc (most 32))) =
       le-trans (r .1) (suc-le-suc (mul-le-mul h (suc-le-suc (suc-le-suc (most-most (32 - free places) (omega arith)))))) in
-    let e = reach-all-steps (r .0) (suc (atomCells * suc (suc (most 32)))) m in
-    (e, rw e m)
+      let e = reach-all-steps (r .0) (suc (atomCells * suc (suc (most 32)))) m in
+      (e, rw e m)
 
   -- a bound variable weighs more than what it is bound to
   pub lighter-bound : (x : ℕ) (t : Term) (ts : Terms) → bound F a b places x ≡ some t → length (enc t) ≤ atomCells
-    → weight places (bound F a b places) (cons t nil) ts < weight places (bound F a b places) (cons (var x) nil) ts
+      → weight places (bound F a b places) (cons t nil) ts < weight places (bound F a b places) (cons (var x) nil) ts
   unfolding weight stands-sub
   lighter-bound x t ts e h =
-    let d = stands-sub (bound F a b places) σ (most (32 - free places)) (K .full) t .0 in
-    let q = bound-follows (bound F a b places) x t (σ x) (K .full .stands x) e in
-    let l : length (encs (cons t nil)) ≤ atomCells = rw append-nil h in
-    omega (arith, found-all (cons (var x) nil) (omega arith) .0, found-all (cons t nil) l .0, q .1, steps-once (q .0) d)
+      let d = stands-sub (bound F a b places) σ (most (32 - free places)) (K .full) t .0 in
+      let q = bound-follows (bound F a b places) x t (σ x) (K .full .stands x) e in
+      let l : length (encs (cons t nil)) ≤ atomCells = rw append-nil h in
+      omega (arith, found-all (cons (var x) nil) (omega arith) .0, found-all (cons t nil) l .0, q .1, steps-once (q .0) d)
 
   pub lighter-bound-second : (x : ℕ) (t : Term) (ss : Terms) → bound F a b places x ≡ some t → length (enc t) ≤ atomCells
-    → weight places (bound F a b places) ss (cons t nil) < weight places (bound F a b places) ss (cons (var x) nil)
+      → weight places (bound F a b places) ss (cons t nil) < weight places (bound F a b places) ss (cons (var x) nil)
   unfolding weight stands-sub
   lighter-bound-second x t ss e h =
-    let d = stands-sub (bound F a b places) σ (most (32 - free places)) (K .full) t .0 in
-    let q = bound-follows (bound F a b places) x t (σ x) (K .full .stands x) e in
-    let l : length (encs (cons t nil)) ≤ atomCells = rw append-nil h in
-    omega (arith, found-all (cons (var x) nil) (omega arith) .0, found-all (cons t nil) l .0, q .1, steps-once (q .0) d)
+      let d = stands-sub (bound F a b places) σ (most (32 - free places)) (K .full) t .0 in
+      let q = bound-follows (bound F a b places) x t (σ x) (K .full .stands x) e in
+      let l : length (encs (cons t nil)) ≤ atomCells = rw append-nil h in
+      omega (arith, found-all (cons (var x) nil) (omega arith) .0, found-all (cons t nil) l .0, q .1, steps-once (q .0) d)
 
   -- two functions' terms weigh more than their arguments
   pub lighter-arguments : (f g : ℕ) (us vs : Terms) → length (encs us) < atomCells → length (encs vs) < atomCells
-    → suc (weight places (bound F a b places) us vs) < weight places (bound F a b places) (cons (app f us) nil) (cons (app g vs) nil)
+      → suc (weight places (bound F a b places) us vs) < weight places (bound F a b places) (cons (app f us) nil) (cons (app g vs) nil)
   unfolding weight stands-sub
   lighter-arguments f g us vs h k =
-    let l : length (encs (cons (app f us) nil)) ≤ atomCells = rw (append-nil (encs us)) h in
-    let m : length (encs (cons (app g vs) nil)) ≤ atomCells = rw (append-nil (encs vs)) k in
-    omega (arith, found-all us (omega arith) .0, found-all vs (omega arith) .0, found-all (cons (app f us) nil) l .0, found-all (cons (app g vs) nil) m .0)
+      let l : length (encs (cons (app f us) nil)) ≤ atomCells = rw (append-nil (encs us)) h in
+      let m : length (encs (cons (app g vs) nil)) ≤ atomCells = rw (append-nil (encs vs)) k in
+      omega (arith, found-all us (omega arith) .0, found-all vs (omega arith) .0, found-all (cons (app f us) nil) l .0, found-all (cons (app g vs) nil) m .0)
 
   -- the first terms weigh no more than all
   pub lighter-first : (s t : Term) (ss ts : Terms) → length (encs (cons s ss)) ≤ atomCells → length (encs (cons t ts)) ≤ atomCells
-    → weight places (bound F a b places) (cons s nil) (cons t nil) ≤ weight places (bound F a b places) (cons s ss) (cons t ts)
+      → weight places (bound F a b places) (cons s nil) (cons t nil) ≤ weight places (bound F a b places) (cons s ss) (cons t ts)
   unfolding weight stands-sub
   lighter-first s t ss ts h k =
-    let ls : length (encs (cons s nil)) ≤ atomCells = rw append-nil (omega (arith, simp length-append at h)) in
-    let lt : length (encs (cons t nil)) ≤ atomCells = rw append-nil (omega (arith, simp length-append at k)) in
-    let ms = all-steps-some (stand-subs (bound F a b places) σ (most (32 - free places)) (K .full) ss .0) in
-    let mt = all-steps-some (stand-subs (bound F a b places) σ (most (32 - free places)) (K .full) ts .0) in
-    omega (arith, found-all (cons s nil) ls .0, found-all (cons t nil) lt .0, found-all (cons s ss) h .0, found-all (cons t ts) k .0)
+      let ls : length (encs (cons s nil)) ≤ atomCells = rw append-nil (omega (arith, simp length-append at h)) in
+      let lt : length (encs (cons t nil)) ≤ atomCells = rw append-nil (omega (arith, simp length-append at k)) in
+      let ms = all-steps-some (stand-subs (bound F a b places) σ (most (32 - free places)) (K .full) ss .0) in
+      let mt = all-steps-some (stand-subs (bound F a b places) σ (most (32 - free places)) (K .full) ts .0) in
+      omega (arith, found-all (cons s nil) ls .0, found-all (cons t nil) lt .0, found-all (cons s ss) h .0, found-all (cons t ts) k .0)
 
   -- the others weigh less than all
   pub lighter-others : (s t : Term) (ss ts : Terms) → length (encs (cons s ss)) ≤ atomCells → length (encs (cons t ts)) ≤ atomCells
-    → weight places (bound F a b places) ss ts < weight places (bound F a b places) (cons s ss) (cons t ts)
+      → weight places (bound F a b places) ss ts < weight places (bound F a b places) (cons s ss) (cons t ts)
   unfolding weight stands-sub
   lighter-others s t ss ts h k =
-    let ls : length (encs ss) ≤ atomCells = omega (arith, simp length-append at h) in
-    let lt : length (encs ts) ≤ atomCells = omega (arith, simp length-append at k) in
-    let ms = steps-some (stands-sub (bound F a b places) σ (most (32 - free places)) (K .full) s .0) in
-    omega (arith, found-all ss ls .0, found-all ts lt .0, found-all (cons s ss) h .0, found-all (cons t ts) k .0)
+      let ls : length (encs ss) ≤ atomCells = omega (arith, simp length-append at h) in
+      let lt : length (encs ts) ≤ atomCells = omega (arith, simp length-append at k) in
+      let ms = steps-some (stands-sub (bound F a b places) σ (most (32 - free places)) (K .full) s .0) in
+      omega (arith, found-all ss ls .0, found-all ts lt .0, found-all (cons s ss) h .0, found-all (cons t ts) k .0)
 
 -- with fewer unbound variables everything weighs less
 pub lighter-fewer : (F a b places sets places′ sets′ : List ℕ) (σ σ′ : Subst) → Kept F a b places sets σ → Kept F a b places′ sets′ σ′
-  → free places′ < free places → (ss ts ss′ ts′ : Terms) → length (encs ss′) ≤ atomCells → length (encs ts′) ≤ atomCells
-  → weight places′ (bound F a b places′) ss′ ts′ < weight places (bound F a b places) ss ts
+    → free places′ < free places → (ss ts ss′ ts′ : Terms) → length (encs ss′) ≤ atomCells → length (encs ts′) ≤ atomCells
+    → weight places′ (bound F a b places′) ss′ ts′ < weight places (bound F a b places) ss ts
 unfolding weight factor
 lighter-fewer F a b places sets places′ sets′ σ σ′ K K′ fewer ss ts ss′ ts′ h k =
     let m : suc (free places′) * suc (enough + enough) ≤ free places * suc (enough + enough) = mul-le-mul-right (suc (enough + enough)) fewer in

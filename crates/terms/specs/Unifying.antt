@@ -8,7 +8,7 @@ use mathlib.Core.List.{List, [], _∷_}
 use lib.ListN.{length, getD}
 use lib.Dec.{ltb}
 use Rattle.terms.specs.Term.{Term, Terms, var, app, nil, cons, Subst, sub, subs, Occ}
-use Rattle.terms.specs.Cells.{firstVariable, variables, atomCells, pick, Run}
+use Rattle.terms.specs.Cells.{firstVariable, variables, atomCells, pick, takeTerms, Run}
 use Rattle.terms.specs.Mask.{Has}
 use Rattle.terms.specs.Walk.{Cells}
 use Rattle.terms.specs.Store.{secondAtom, noPlace, cellsAt, termsAt, variableAt, firstTerm, bound, Stands, StandAll, unbound, followed, node, done, more}
@@ -113,3 +113,17 @@ pub record Bindable (arities a b places sets : List ℕ) (x p : ℕ) : Type 0 wh
   pub run : Run arities (cellsAt a b p) 1
   pub is-place : p < noPlace
   pub way : Followed (bound arities a b places) x (firstTerm (termsAt arities a b p))
+
+-- n terms at each of two places can be compared
+pub record Comparable (arities a b places sets : List ℕ) (s t n : ℕ) : Type 0 where
+  pub σ : Subst
+  pub kept : Kept arities a b places sets σ
+  pub first-run : Run arities (cellsAt a b s) n
+  pub second-run : Run arities (cellsAt a b t) n
+  pub first-place : s < noPlace
+  pub second-place : t < noPlace
+
+-- the first n terms at two places were compared
+abbrev pub Compared : List ℕ → List ℕ → List ℕ → List ℕ → List ℕ → ℕ → ℕ → ℕ → Bool → List ℕ → List ℕ → Type 0
+Compared arities a b places sets s t n =
+    Outcome arities a b places sets (takeTerms n (termsAt arities a b s)) (takeTerms n (termsAt arities a b t))

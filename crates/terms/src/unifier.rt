@@ -12,7 +12,7 @@ ghost use Rattle.terms.specs.Term.{var, nil, cons};
 ghost use Rattle.terms.specs.Cells.{Run};
 ghost use Rattle.terms.specs.Walk.{cellsOf};
 ghost use Rattle.terms.specs.Store.{cellsAt, termsAt, variableAt, firstTerm};
-ghost use Rattle.terms.specs.Unifying.{lookAt, CellAt, baseOf, Bindable, Outcome, AllReplaced};
+ghost use Rattle.terms.specs.Unifying.{lookAt, CellAt, baseOf, Bindable, Comparable, Compared, Outcome, AllReplaced};
 
 // Places below this are in the first atom, the others in the second.
 pub const SECOND_ATOM: usize = 64;
@@ -130,7 +130,7 @@ fn bind<'a>(
 ) -> bool
     requires { ⌜ Bindable (now functions) (now a) (now b) (now places) (now sets) x place ⌝ }
     ensures { λ r. ⌜ Outcome (now (functions .entry)) (now (a .entry)) (now (b .entry)) (now (places .entry)) (now (sets .entry))
-      (cons (var x) nil) (cons (firstTerm (termsAt (now (functions .entry)) (now (a .entry)) (now (b .entry)) place)) nil) r (now (places .exit)) (now (sets .exit)) ⌝ }
+        (cons (var x) nil) (cons (firstTerm (termsAt (now (functions .entry)) (now (a .entry)) (now (b .entry)) place)) nil) r (now (places .exit)) (now (sets .exit)) ⌝ }
 {
     let run = resolve(a, b, functions, place);
     let base = base_of(place);
@@ -150,4 +150,70 @@ fn after<'a>(a: &'a [u16], b: &'a [u16], functions: &[u16], place: usize) -> usi
 {
     let run = resolve(a, b, functions, place);
     place + run.len()
+}
+
+// The terms at two places, both followed to an unbound variable or a function: "Two terms are compared through their arguments".
+fn unify_term<'a>(
+    a: &'a [u16],
+    b: &'a [u16],
+    functions: &[u16],
+    s: usize,
+    t: usize,
+    places: &mut [u8; 32],
+    sets: &mut [u32; 32],
+) -> bool
+    requires { ⌜ Comparable (now functions) (now a) (now b) (now places) (now sets) s t 1 ⌝ }
+    ensures { λ r. ⌜ Compared (now (functions .entry)) (now (a .entry)) (now (b .entry)) (now (places .entry)) (now (sets .entry)) s t 1 r (now (places .exit)) (now (sets .exit)) ⌝ }
+{
+    let first = look_at(a, b, places, s);
+    let second = look_at(a, b, places, t);
+    match first {
+        Look::Bound(p) => unify_term(a, b, functions, p, t, places, sets),
+        Look::Unbound(x) => match second {
+            Look::Bound(q) => unify_term(a, b, functions, s, q, places, sets),
+            Look::Unbound(y) => {
+                if x == y {
+                    return true;
+                }
+                bind(a, b, functions, x, t, places, sets)
+            }
+            Look::Function(_) => bind(a, b, functions, x, t, places, sets),
+        },
+        Look::Function(f) => match second {
+            Look::Bound(q) => unify_term(a, b, functions, s, q, places, sets),
+            Look::Unbound(y) => bind(a, b, functions, y, s, places, sets),
+            Look::Function(g) => {
+                if f != g {
+                    return false;
+                }
+                let arity = wide(functions[wide(f)]);
+                unify_terms(a, b, functions, s + 1, t + 1, arity, places, sets)
+            }
+        },
+    }
+}
+
+// The first n terms at two places, pair by pair in prefix order as written: "and argument runs through their terms".
+fn unify_terms<'a>(
+    a: &'a [u16],
+    b: &'a [u16],
+    functions: &[u16],
+    s: usize,
+    t: usize,
+    n: usize,
+    places: &mut [u8; 32],
+    sets: &mut [u32; 32],
+) -> bool
+    requires { ⌜ Comparable (now functions) (now a) (now b) (now places) (now sets) s t n ⌝ }
+    ensures { λ r. ⌜ Compared (now (functions .entry)) (now (a .entry)) (now (b .entry)) (now (places .entry)) (now (sets .entry)) s t n r (now (places .exit)) (now (sets .exit)) ⌝ }
+{
+    if n == 0 {
+        return true;
+    }
+    if !unify_term(a, b, functions, s, t, places, sets) {
+        return false;
+    }
+    let s_next = after(a, b, functions, s);
+    let t_next = after(a, b, functions, t);
+    unify_terms(a, b, functions, s_next, t_next, n - 1, places, sets)
 }

@@ -1,0 +1,112 @@
+-- Comparing the terms at two places: what is found there, and what each way of going on needs and gives.
+use Prim.Native.Nat.{ℕ, zero, suc, _+_, _-_, _*_, _≤_, _<_}
+use mathlib.Core.Path.{_≡_, refl, sym, ap, ap₂, subst, _∙_}
+use mathlib.Core.Logic.{_⊎_, inl, inr, _↔_}
+use mathlib.Core.Bool.{Bool, true, false}
+use mathlib.Core.Option.{Option, none, some}
+use mathlib.Core.List.{List, [], _∷_}
+use native.Mathlib.Nat.{le-trans}
+use native.Mathlib.Decide.{decLt}
+use native.Mathlib.Omega.{arith}
+use lib.ListN.{length, getD, drop, length-drop, length-append}
+use lib.Dec.{ltb}
+use borrow.Author.Tests.{lt-ltb, le-ltb}
+use Rattle.terms.specs.Term.{Term, Terms, var, app, nil, cons, Subst, sub, subs}
+use Rattle.terms.specs.Cells.{enc, encs, firstVariable, atomCells, pick, takeTerms, Run}
+use Rattle.terms.specs.Walk.{cellsOf}
+use Rattle.terms.specs.Store.{secondAtom, noPlace, cellsAt, termsAt, variableAt, firstTerm, bound}
+use Rattle.terms.specs.Unifying.{lookAt, Kept, Solves, Outcome, Followed, Bindable, Comparable, Compared, free}
+use Rattle.terms.specs.declared.unifier.Look.{Look}
+use Rattle.terms.specs.declared.unifier.Look.the-variants.{Unbound, Bound, Function}
+use Rattle.terms.proofs.Places.{cells-first, cells-second, place-within}
+use Rattle.terms.proofs.Steps.{run-cell, run-within}
+use Rattle.terms.proofs.Standings.{Seen, a-variable, a-function, seen, Next, next-term, terms-at-run, kept-apart}
+use Rattle.terms.proofs.Binding.{place-unbound}
+use Rattle.terms.proofs.Bound.{renumbered-cells, renumbered-cells-all, short-at}
+use Rattle.terms.proofs.Joining.{bound-same, outcome-for, outcome-same, outcome-then, outcome-parted}
+use Rattle.terms.proofs.Weight.{weight, lighter-bound, lighter-bound-second, lighter-arguments, lighter-first, lighter-others, lighter-fewer}
+
+-- what an answer of `look_at` means for the term at the place
+abbrev pub Means : List ℕ → List ℕ → List ℕ → List ℕ → ℕ → Look → Type 0
+Means F a b places p (Unbound x) = (firstTerm (termsAt F a b p) ≡ var x) × (bound F a b places x ≡ none) × (x < 32)
+Means F a b places p (Bound q) =
+    (x : ℕ) × (firstTerm (termsAt F a b p) ≡ var x) × (bound F a b places x ≡ some (firstTerm (termsAt F a b q)))
+    × Run F (cellsAt a b q) 1 × (q < noPlace)
+Means F a b places p (Function f) =
+    (firstTerm (termsAt F a b p) ≡ app f (takeTerms (getD F f 0) (termsAt F a b (p + 1)))) × (f < length F)
+    × Run F (cellsAt a b (p + 1)) (getD F f 0) × (p + 1 < noPlace)
+
+-- past the end it does not matter what is said of the end
+same-inside : (l : List ℕ) (i d e : ℕ) → i < length l → getD l i d ≡ getD l i e
+same-inside [] i d e h = absurd (omega arith)
+same-inside (x ∷ l) zero d e h = refl
+same-inside (x ∷ l) (suc i) d e h = same-inside l i d e (omega arith)
+
+-- a place moved on by a term's cells is a place
+pub place-past : (F a b : List ℕ) (p : ℕ) → length a ≤ atomCells → length b ≤ atomCells → Run F (cellsAt a b p) 1
+    → p + cellsOf F (cellsAt a b p) 1 < noPlace
+place-past F a b p s t r = go (decLt p secondAtom)
+  where
+    within : cellsOf F (cellsAt a b p) 1 ≤ length (cellsAt a b p)
+    within = run-within F (cellsAt a b p) 1 r
+
+    some : 0 < length (cellsAt a b p)
+    some = run-cell F (cellsAt a b p) 1 (λ e. omega arith) r
+
+    go : Dec (p < secondAtom) → p + cellsOf F (cellsAt a b p) 1 < noPlace
+    go (yes h) =
+        let w = place-within a p (rw (cells-first a b p h) at some) in
+        let l = length-drop p a in
+        let k : cellsOf F (cellsAt a b p) 1 ≤ length (drop p a) = le-trans within (rw (cells-first a b p h) (omega arith)) in
+        omega arith
+    go (no h) =
+        let w = place-within b (p - secondAtom) (rw (cells-second a b p (omega arith)) at some) in
+        let l = length-drop (p - secondAtom) b in
+        let k : cellsOf F (cellsAt a b p) 1 ≤ length (drop (p - secondAtom) b) = le-trans within (rw (cells-second a b p (omega arith)) (omega arith)) in
+        omega arith
+
+place-on : (F a b : List ℕ) (p : ℕ) → length a ≤ atomCells → length b ≤ atomCells → Run F (cellsAt a b p) 1 → p + 1 < noPlace
+place-on F a b p s t r = go (decLt p secondAtom)
+  where
+    some : 0 < length (cellsAt a b p)
+    some = run-cell F (cellsAt a b p) 1 (λ e. omega arith) r
+
+    go : Dec (p < secondAtom) → p + 1 < noPlace
+    go (yes h) = omega arith
+    go (no h) =
+        let w = place-within b (p - secondAtom) (rw (cells-second a b p (omega arith)) at some) in
+        omega arith
+
+pub looked : (F a b places sets : List ℕ) (σ : Subst) (p : ℕ) → Kept F a b places sets σ → Run F (cellsAt a b p) 1
+    → Means F a b places p (lookAt a b places p)
+looked F a b places sets σ p K r = go (seen F a b p (K .first-short) r)
+  where
+    go : Seen F a b p → Means F a b places p (lookAt a b places p)
+    go (a-function h d w e) = rw (lt-ltb (getD (cellsAt a b p) 0 0) firstVariable h) (e, d, w, place-on F a b p (K .first-short) (K .second-short) r)
+    go (a-variable h l e s) = rw (le-ltb (getD (cellsAt a b p) 0 0) firstVariable h) (at (decLt (getD places x 0) noPlace))
+      where
+        x : ℕ
+        x = variableAt p (getD (cellsAt a b p) 0 0)
+
+        same : getD places (variableAt p (getD (cellsAt a b p) 0 0)) noPlace ≡ getD places (variableAt p (getD (cellsAt a b p) 0 0)) 0
+        same = same-inside places _ noPlace 0 (omega (arith, s, K .all-places))
+
+        at : Dec (getD places (variableAt p (getD (cellsAt a b p) 0 0)) 0 < noPlace)
+            → Means F a b places p (pick (ltb (getD places (variableAt p (getD (cellsAt a b p) 0 0)) 0) noPlace)
+            (Bound (getD places (variableAt p (getD (cellsAt a b p) 0 0)) 0)) (Unbound (variableAt p (getD (cellsAt a b p) 0 0))))
+        at (yes k) =
+            rw (lt-ltb (getD places (variableAt p (getD (cellsAt a b p) 0 0)) 0) noPlace k) (
+              variableAt p (getD (cellsAt a b p) 0 0),
+              e,
+              rw (same, lt-ltb (getD places (variableAt p (getD (cellsAt a b p) 0 0)) 0) noPlace k) refl,
+              (let w = K .whole (variableAt p (getD (cellsAt a b p) 0 0)) (rw same k) in rw same at w),
+              k,
+            )
+        at (no k) =
+            rw (le-ltb (getD places (variableAt p (getD (cellsAt a b p) 0 0)) 0) noPlace (omega arith))
+            (e, place-unbound F a b places (variableAt p (getD (cellsAt a b p) 0 0)) (rw same (omega arith)), s)
+
+-- the same, of an answer that is known
+pub looked-as : (F a b places sets : List ℕ) (σ : Subst) (p : ℕ) → Kept F a b places sets σ → Run F (cellsAt a b p) 1
+    → (r l : Look) → r ≡ lookAt a b places p → r ≡ l → Means F a b places p l
+looked-as F a b places sets σ p K r answer l e f = subst (Means F a b places p) (sym e ∙ f) (looked F a b places sets σ p K r)
