@@ -94,8 +94,6 @@ module _ (F a b places sets : List ℕ) (σ : Subst) (x p gained : ℕ) (K : Kep
       record {
         first-short = K .first-short;
         second-short = K .second-short;
-        first-cells = K .first-cells;
-        second-cells = K .second-cells;
         all-places = length-set places x p ∙ K .all-places;
         all-sets = replaced .as-many;
         whole = λ y h. whole-at y h (ℕ-discrete y x);

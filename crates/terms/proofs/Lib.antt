@@ -20,5 +20,6 @@ pub mod Bound
 pub mod Weight
 pub mod Comparing
 pub mod GoingOn
+pub mod Atoms
 pub mod Standing
 pub mod Stores

@@ -29,11 +29,11 @@ take-subs (suc n) (cons t ts) σ = ap (cons (sub t σ)) (take-subs n ts σ)
 
 -- in the first atom the numbers are as they are
 mutual
-  same-numbers : (t : Term) → sub t (λ v. var (0 + v)) ≡ t
+  pub same-numbers : (t : Term) → sub t (λ v. var (0 + v)) ≡ t
   same-numbers (var v) = ap var (zero-add v)
   same-numbers (app f ts) = ap (app f) (same-numbers-all ts)
 
-  same-numbers-all : (ts : Terms) → subs ts (λ v. var (0 + v)) ≡ ts
+  pub same-numbers-all : (ts : Terms) → subs ts (λ v. var (0 + v)) ≡ ts
   same-numbers-all nil = refl
   same-numbers-all (cons t ts) = ap₂ cons (same-numbers t) (same-numbers-all ts)
 

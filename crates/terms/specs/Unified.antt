@@ -28,3 +28,12 @@ abbrev pub Unification : List ℕ → List ℕ → List ℕ → List ℕ → Boo
 Unification predicates functions a b r places sets =
     (A B : Term) → a ≡ enc A → b ≡ enc B → Atom predicates functions A → Atom predicates functions B
     → pick r (Unified functions a b A B places sets) (Apart A B)
+
+-- both runs of cells are atoms
+pub record BothAtoms (predicates functions a b : List ℕ) : Type 0 where
+  pub first : Term
+  pub first-run : a ≡ enc first
+  pub first-atom : Atom predicates functions first
+  pub second : Term
+  pub second-run : b ≡ enc second
+  pub second-atom : Atom predicates functions second

@@ -10,7 +10,6 @@ use lib.Dec.{ltb}
 use Rattle.terms.specs.Term.{Term, Terms, var, app, nil, cons, Subst, sub, subs, Occ}
 use Rattle.terms.specs.Cells.{firstVariable, variables, atomCells, pick, takeTerms, Run}
 use Rattle.terms.specs.Mask.{Has}
-use Rattle.terms.specs.Walk.{Cells}
 use Rattle.terms.specs.Store.{secondAtom, noPlace, cellsAt, termsAt, variableAt, firstTerm, bound, Stands, StandAll, unbound, followed, node, done, more}
 use Rattle.terms.specs.declared.unifier.Look.{Look}
 use Rattle.terms.specs.declared.unifier.Look.the-variants.{Unbound, Bound, Function}
@@ -60,8 +59,6 @@ most (suc k) = most k * suc (atomCells * suc (suc (most k)))
 pub record Kept (arities a b places sets : List ℕ) (σ : Subst) : Type 0 where
   pub first-short : length a ≤ atomCells
   pub second-short : length b ≤ atomCells
-  pub first-cells : Cells a
-  pub second-cells : Cells b
   pub all-places : length places ≡ 32
   pub all-sets : length sets ≡ 32
   pub whole : (x : ℕ) → getD places x noPlace < noPlace → Run arities (cellsAt a b (getD places x noPlace)) 1

@@ -12,6 +12,7 @@ ghost use Rattle.terms.specs.Term.{var, nil, cons};
 ghost use Rattle.terms.specs.Cells.{Run};
 ghost use Rattle.terms.specs.Walk.{cellsOf};
 ghost use Rattle.terms.specs.Store.{cellsAt, termsAt, variableAt, firstTerm};
+ghost use Rattle.terms.specs.Unified.{BothAtoms, Unification};
 ghost use Rattle.terms.specs.Unifying.{lookAt, CellAt, baseOf, Bindable, Comparable, Compared, Outcome, AllReplaced};
 
 // Places below this are in the first atom, the others in the second.
@@ -216,4 +217,62 @@ fn unify_terms<'a>(
     let s_next = after(a, b, functions, s);
     let t_next = after(a, b, functions, t);
     unify_terms(a, b, functions, s_next, t_next, n - 1, places, sets)
+}
+
+// At first every variable is unbound, and stands for itself.
+const ALONE: [u32; 32] = [
+    1,
+    2,
+    4,
+    8,
+    16,
+    32,
+    64,
+    128,
+    256,
+    512,
+    1024,
+    2048,
+    4096,
+    8192,
+    16384,
+    32768,
+    65536,
+    131072,
+    262144,
+    524288,
+    1048576,
+    2097152,
+    4194304,
+    8388608,
+    16777216,
+    33554432,
+    67108864,
+    134217728,
+    268435456,
+    536870912,
+    1073741824,
+    2147483648,
+];
+
+// A most general unifier of two atoms, or false where they are apart: "with the occurs check, the two atoms' variables kept apart".
+pub fn unify<'a>(
+    a: &'a [u16],
+    b: &'a [u16],
+    predicates: &[u16],
+    functions: &[u16],
+    places: &mut [u8; 32],
+    sets: &mut [u32; 32],
+) -> bool
+    requires { ⌜ BothAtoms (now predicates) (now functions) (now a) (now b) ⌝ }
+    ensures { λ r. ⌜ Unification (now (predicates .entry)) (now (functions .entry)) (now (a .entry)) (now (b .entry)) r (now (places .exit)) (now (sets .exit)) ⌝ }
+{
+    *places = [NO_PLACE; 32];
+    *sets = ALONE;
+    let predicate = a[0];
+    if predicate != b[0] {
+        return false;
+    }
+    let arity = wide(predicates[wide(predicate)]);
+    unify_terms(a, b, functions, 1, SECOND_ATOM + 1, arity, places, sets)
 }
