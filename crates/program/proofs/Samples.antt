@@ -5,7 +5,7 @@ use mathlib.Core.List.{List, [], _∷_}
 use Rattle.terms.specs.Term.{Terms, Term, var, app, nil, cons}
 use Rattle.program.specs.Reading.{bounded, several}
 use Rattle.program.specs.Atoms.{terms, atom, atoms}
-use Rattle.program.specs.Faults.{clause, goal, written, whole, Found, fault, sound, faults}
+use Rattle.program.specs.Faults.{clause, goal, written, declared, whole, Found, fault, sound, faults}
 
 -- "the empty slice (1, place 0)"
 pub empty-slice : faults [] ≡ fault 1 0
@@ -15,12 +15,12 @@ empty-slice = refl
 -- "words 1 0 0 0 0 0": one predicate without arguments, which is the goal
 pub least-program :
     faults (1 ∷ 0 ∷ 0 ∷ 0 ∷ 0 ∷ 0 ∷ []) ≡ sound (record { predicates = 0 ∷ []; functions = []; clauses = []; goal = app 0 nil; ground = 0 })
-unfolding bounded several terms atom atoms clause goal written whole faults
+unfolding bounded several terms atom atoms clause goal written declared whole faults
 least-program = refl
 
 -- "something follows the goal"
 pub one-word-too-many : faults (1 ∷ 0 ∷ 0 ∷ 0 ∷ 0 ∷ 0 ∷ 0 ∷ []) ≡ fault 7 6
-unfolding bounded several terms atom atoms clause goal written whole faults
+unfolding bounded several terms atom atoms clause goal written declared whole faults
 one-word-too-many = refl
 
 pub legs : List ℕ
@@ -43,5 +43,5 @@ pub legs-read :
       goal = app 0 (cons (var 0) (cons (var 1) nil));
       ground = 1;
     })
-unfolding bounded several terms atom atoms clause goal written whole faults legs
+unfolding bounded several terms atom atoms clause goal written declared whole faults legs
 legs-read = refl

@@ -2,10 +2,10 @@
 use Prim.Native.Nat.{ℕ, zero, suc}
 use mathlib.Core.Path.{_≡_, refl, sym, ap, _∙_}
 use mathlib.Core.Logic.{_⊎_, inl, inr}
-use mathlib.Core.List.{List, [], _∷_, _++_, map, List·Memᴰ, List·Memᴰ·head, List·Memᴰ·tail, List·Memᴰ·cases-cons, Memᴰ·append-left, Memᴰ·append-right}
+use mathlib.Core.List.{List, [], _∷_, map, List·Memᴰ, List·Memᴰ·head, List·Memᴰ·tail, List·Memᴰ·cases-cons, Memᴰ·append-left, Memᴰ·append-right}
 use lib.ListN.{getD}
 use native.Mathlib.Decide.{ℕ-discrete}
-use Rattle.terms.specs.Term.{Term, Terms, sameTerm, var, app, nil, cons, Subst, sub, subs, comp, Occ, Occs}
+use Rattle.terms.specs.Term.{Term, Terms, sameTerm, var, app, nil, cons, Subst, sub, Occ, Occs}
 use Rattle.terms.proofs.Substs.{sub-comp, sub-agree}
 use Rattle.program.specs.Program.{Nth, here, there, Clause, Program, bodies}
 use Rattle.program.specs.Shapes.{place, with, met, mets, number, shapeOf, distinct, shapes, shapeNumber}
@@ -15,7 +15,11 @@ pub nth-member : {A : Type 0} {l : List A} {n : ℕ} {a : A} → Nth l n a → L
 nth-member here = List·Memᴰ·head refl
 nth-member (there h) = List·Memᴰ·tail (nth-member h)
 
--- an element of a list stands at some place of it
+-- one element stands at a place
+pub nth-same : {A : Type 0} {l : List A} {n : ℕ} {a b : A} → Nth l n a → Nth l n b → a ≡ b
+nth-same here here = refl
+nth-same (there h) (there h′) = nth-same h h′
+
 pub nth-getD : {A : Type 0} {l : List A} {n : ℕ} {a : A} (d : A) → Nth l n a → getD l n d ≡ a
 nth-getD d here = refl
 nth-getD d (there h) = nth-getD d h

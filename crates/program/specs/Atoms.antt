@@ -46,17 +46,18 @@ abbrev pub build : ℕ → ℕ → Terms → Terms
 build w arity ts =
     pick (ltb w firstVariable) (cons (app w (firsts arity ts)) (others arity ts)) (cons (var (w - firstVariable)) ts)
 
+-- what a cell opens, given how to read so many terms after it with so many variables met
+abbrev pub opened : Cell → ℕ → List ℕ → (ℕ → ℕ → Read (Terms × ℕ)) → Read (Terms × ℕ)
+opened (Bad number) w ws read = wrong number (w ∷ ws)
+opened (Opens arity seen) w ws read = next (read arity seen) (λ r rest. right (build w arity (r .0), r .1) rest)
+
 -- so many terms, of an atom of which so many cells were taken, with so many variables met; the terms and the variables met after them
 unfoldable pub terms : List ℕ → List ℕ → ℕ → ℕ → ℕ → Read (Terms × ℕ)
 terms functions [] zero taken seen = right (nil, seen) []
 terms functions [] (suc n) taken seen = wrong tooSoon []
 terms functions (w ∷ ws) zero taken seen = right (nil, seen) (w ∷ ws)
 terms functions (w ∷ ws) (suc n) taken seen =
-    elim (cellOf functions taken seen w) [
-      | Bad number ↦ wrong number (w ∷ ws)
-      | Opens arity met ↦
-          next (terms functions ws (arity + n) (suc taken) met) (λ r rest. right (build w arity (r .0), r .1) rest)
-    ]
+    opened (cellOf functions taken seen w) w ws (λ arity met. terms functions ws (arity + n) (suc taken) met)
 
 -- "Atoms are in prefix order: a predicate number below P, then its argument terms."
 unfoldable pub atom : List ℕ → List ℕ → ℕ → List ℕ → Read (Term × ℕ)

@@ -47,15 +47,17 @@ written predicates functions n ws =
     (λ cs rest. next (goal predicates functions rest)
     (λ g rest′. ended (record { predicates = predicates; functions = functions; clauses = cs; goal = g .0; ground = g .1 }) rest′))
 
--- "predicate count P (1 to 64), function count F (0 to 64), clause count C (0 to 64); P predicate arities, then F function arities, each 0 to 8; .."
+-- "P predicate arities, then F function arities, each 0 to 8", and what is written with them
+unfoldable pub declared : ℕ → ℕ → ℕ → List ℕ → Read Program
+declared p f c ws = next (arities p ws) (λ ps rest. next (arities f rest) (λ fs rest′. written ps fs c rest′))
+
+-- "predicate count P (1 to 64), function count F (0 to 64), clause count C (0 to 64)"
 unfoldable pub whole : List ℕ → Read Program
 whole ws =
     next (bounded outOfRange minPredicates maxDeclared ws)
-    (λ p r₁. next (bounded outOfRange 0 maxDeclared r₁)
-    (λ f r₂. next (bounded outOfRange 0 maxDeclared r₂)
-    (λ c r₃. next (arities p r₃)
-    (λ ps r₄. next (arities f r₄)
-    (λ fs r₅. written ps fs c r₅)))))
+    (λ p rest. next (bounded outOfRange 0 maxDeclared rest)
+    (λ f rest′. next (bounded outOfRange 0 maxDeclared rest′)
+    (λ c rest″. declared p f c rest″)))
 
 -- what is found in words: a fault's number and place, or a program
 pub data Found : Type 0 where

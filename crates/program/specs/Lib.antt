@@ -4,5 +4,7 @@ pub mod Reply
 pub mod Program
 pub mod Reading
 pub mod Atoms
+pub mod Part
 pub mod Faults
+pub mod Within
 pub mod Shapes

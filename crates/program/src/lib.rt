@@ -1,4 +1,7 @@
 // The encoded program.
+pub mod atoms;
 pub mod cells;
 pub mod limits;
+pub mod part;
 pub mod reply;
+pub mod scan;

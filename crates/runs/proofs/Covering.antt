@@ -1,22 +1,21 @@
 -- Every run is covered: a closed set of rows that has the goal's call covers each atom called and each atom solved.
 -- The idea: the rows keep up with the run. Shown of wider steps (any substitution for the clause, any for the rest), which the faithful steps are among.
 use Prim.Native.Nat.{ℕ, zero, suc}
-use mathlib.Core.Path.{_≡_, refl, sym, ap, ap₂, _∙_}
+use mathlib.Core.Path.{_≡_, refl, sym, ap, _∙_}
 use mathlib.Core.List.{List, [], _∷_, _++_}
-use lib.ListN.{length}
 use Rattle.terms.specs.Term.{Term, Subst, sub, comp}
 use Rattle.terms.proofs.Substs.{sub-comp}
 use Rattle.marks.specs.Domain.{Domain, Sound}
 use Rattle.program.specs.Program.{Nth, Clause, Program}
-use Rattle.program.specs.Shapes.{shapes, shapeOf, shapeNumber, number, Listed}
+use Rattle.program.specs.Shapes.{shapeOf, number, Listed}
 use Rattle.program.proofs.ShapeLaws.{body-shape, goal-shape, shape-instance, numbered, numbered-number}
-use Rattle.program.proofs.ListLaws.{listed-dec}
-use Rattle.table.specs.Rules.{Row, call, cont, solution, Reached, first, next, Gives, calls, conts, solves}
+use Rattle.program.proofs.ListLaws.{listed-decided}
+use Rattle.table.specs.Rules.{Row, call, Reached, first, next, calls, conts, solves}
 use Rattle.table.specs.Rounds.{Closed}
 use Rattle.runs.specs.Run.{Item, atom, end, apply, written, renamed, Step, put, leave, Run, start, step}
-use Rattle.runs.specs.Cover.{Covered, ByCall, BySolution, CoversRuns}
+use Rattle.runs.specs.Cover.{ByCall, BySolution, CoversRuns}
 use Rattle.runs.proofs.Items.{From, all, from-nth, from-next, from-end, apply-append, apply-written}
-use Rattle.runs.proofs.Frames.{Waits, Frames, bottom, frame, frames-under, covered-under}
+use Rattle.runs.proofs.Frames.{Frames, bottom, frame, frames-under, covered-under}
 
 -- a step with any substitution β for the clause's variables and any θ for all that is in sight: neither fresh nor finite
 pub data Wide (p : Program) : List Item → List Item → Type 0 where
@@ -63,7 +62,7 @@ module _ (D : Domain) (sound : Sound D) (p : Program) (goal : D .Mark) (T : Row 
       below
   arrive (A ∷ after) k i c N β G s rest h f reached holds e by below =
       let taken = sound .number-holds A (number A) N β (numbered A β) (numbered-number A β) holds in
-      let kept = sound .keep-holds (Listed c i) N β (listed-dec c i) holds in
+      let kept = sound .keep-holds (Listed c i) N β (listed-decided c i) holds in
       calling (
         taken .0,
         closed _ (calls reached h (from-nth f) (taken .1)),

@@ -1,14 +1,14 @@
 -- What stands below an atom in progress: the clauses that it waits in, each at its place with a cont row, down to the goal.
-use Prim.Native.Nat.{ℕ, zero, suc}
-use mathlib.Core.Path.{_≡_, refl, sym, ap, ap₂, _∙_}
+use Prim.Native.Nat.{ℕ, suc}
+use mathlib.Core.Path.{_≡_, sym, ap, _∙_}
 use mathlib.Core.List.{List, [], _∷_, _++_}
 use Rattle.terms.specs.Term.{Term, Subst, sub, comp}
 use Rattle.terms.proofs.Substs.{sub-comp}
 use Rattle.marks.specs.Domain.{Domain, Sound}
 use Rattle.program.specs.Program.{Nth, Clause, Program}
 use Rattle.program.specs.Shapes.{shapeNumber}
-use Rattle.table.specs.Rules.{Row, call, cont}
-use Rattle.runs.specs.Run.{Item, atom, end, apply, written}
+use Rattle.table.specs.Rules.{Row, cont}
+use Rattle.runs.specs.Run.{Item, end, apply, written}
 use Rattle.runs.specs.Cover.{Covered, ByCall}
 use Rattle.runs.proofs.Items.{From, apply-append, apply-written}
 

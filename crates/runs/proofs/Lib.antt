@@ -3,3 +3,8 @@ pub mod Items
 pub mod Frames
 pub mod Covering
 pub mod TableCovers
+pub mod GroundCalls
+pub mod LegsRun
+pub mod WrongTable
+pub mod NoClauses
+pub mod AcceptedRuns

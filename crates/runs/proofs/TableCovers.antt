@@ -1,11 +1,10 @@
 -- Demand 3: the rows of the rounds, which are the least closed set, cover every run.
-use Prim.Native.Nat.{ℕ, zero}
 use mathlib.Core.Path.{_≡_, refl}
 use Rattle.marks.specs.Domain.{Domain, Sound}
 use Rattle.program.specs.Program.{Program}
 use Rattle.program.specs.Shapes.{shapeOf}
 use Rattle.table.specs.Rules.{Row}
-use Rattle.table.specs.Rounds.{Closed, Least, Appears}
+use Rattle.table.specs.Rounds.{Least, Appears}
 use Rattle.table.proofs.RuleLaws.{Within}
 use Rattle.table.proofs.RoundLaws.{appears-closed, least-appears}
 use Rattle.runs.specs.Cover.{CoversRuns}

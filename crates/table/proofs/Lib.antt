@@ -2,3 +2,9 @@
 pub mod RuleLaws
 pub mod RoundLaws
 pub mod RoundCount
+pub mod Lists
+pub mod Computed
+pub mod ComputedLaws
+pub mod ModesComputed
+pub mod Samples
+pub mod NoClauses

@@ -1,5 +1,5 @@
 -- Laws of the rounds: they grow, a round that adds nothing is the last, their union is the least closed set, a row has one first round.
-use Prim.Native.Nat.{ℕ, zero, suc, max, _≤_, _<_}
+use Prim.Native.Nat.{ℕ, zero, suc, max, _≤_}
 use native.Mathlib.Nat.{le-max-left, le-max-right}
 use native.Mathlib.Decide.{decLe}
 use native.Mathlib.Omega.{arith}

@@ -11,6 +11,7 @@ pub data Row (Mark : Type 0) : Type 0 where
   call : ℕ → Mark → Row Mark
   cont : ℕ → ℕ → Mark → Row Mark
   solution : ℕ → Mark → Row Mark
+  deriving Discrete as Row-discrete
 
 module _ (D : Domain) (p : Program) where
   -- "for clause n with head H and body A1 to Am": the marks with which the rules come past the first i body atoms of clause k, both counted from 0

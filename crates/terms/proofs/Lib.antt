@@ -11,5 +11,10 @@ pub mod Samples
 pub mod Runs
 pub mod Steps
 pub mod Walks
+pub mod Places
+pub mod Replacing
+pub mod Standings
+pub mod Binding
+pub mod Joining
 pub mod Standing
 pub mod Stores

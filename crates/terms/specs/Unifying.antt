@@ -95,3 +95,7 @@ Followed bindings x t = ((f : ℕ) × (us : Terms) × (t ≡ app f us)) ⊎ ((y 
 -- every set that has x loses it and gains the other set
 abbrev pub Replaced : ℕ → ℕ → ℕ → ℕ → Type 0
 Replaced x gained s s′ = (z : ℕ) → Has s′ z ↔ ((Has s z × (z ≡ x → ⊥)) ⊎ (Has s x × Has gained z))
+
+pub record AllReplaced (x gained : ℕ) (sets sets′ : List ℕ) : Type 0 where
+  pub as-many : length sets′ ≡ 32
+  pub each : (y : ℕ) → y < 32 → Replaced x gained (getD sets y 0) (getD sets′ y 0)

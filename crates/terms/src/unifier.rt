@@ -14,7 +14,7 @@ ghost use Rattle.terms.specs.Cells.{Run, takeTerms};
 ghost use Rattle.terms.specs.Mask.{Has};
 ghost use Rattle.terms.specs.Walk.{cellsOf};
 ghost use Rattle.terms.specs.Store.{cellsAt, termsAt, variableAt, firstTerm, bound};
-ghost use Rattle.terms.specs.Unifying.{lookAt, CellAt, Kept, Outcome, Followed, Replaced};
+ghost use Rattle.terms.specs.Unifying.{lookAt, CellAt, Kept, Outcome, Followed, AllReplaced};
 
 // Places below this are in the first atom, the others in the second.
 pub const SECOND_ATOM: usize = 64;
@@ -97,8 +97,8 @@ pub fn resolve<'a>(a: &'a [u16], b: &'a [u16], functions: &[u16], place: usize) 
 
 // Every set that has x loses it and gains the other set.
 fn replace(sets: &mut [u32; 32], x: usize, gained: u32)
-    requires { ⌜ x < 32 ⌝ }
-    ensures { λ _. ⌜ ((y : ℕ) → y < 32 → Replaced x gained (getD (now (sets .entry)) y 0) (getD (now (sets .exit)) y 0)) ⌝ }
+    requires { ⌜ (x < 32) × (length (now sets) ≡ 32) ⌝ }
+    ensures { λ _. ⌜ AllReplaced x gained (now (sets .entry)) (now (sets .exit)) ⌝ }
 {
     let mut y = 0;
     while y < VARIABLES {

@@ -1,39 +1,29 @@
+-- `look_at` meets its contract: each answer is the case of `lookAt` that its tests choose. Assumes nothing.
+use Rattle.terms.proofs.Places.{look-function, look-bound, look-unbound}
 use borrow.Author.Needs.{needs}
 use Rattle.terms.proofs.unifier.look_at.Statement.{statement}
 use Rattle.terms.proofs.unifier.look_at.Tie as tie
-use Rattle.terms.proofs.unifier.look_at.Reads as reads
-use Rattle.terms.proofs.unifier.look_at.Lts as lts
-use Rattle.terms.proofs.unifier.cell_at.Reads as cell-at-reads
-use Rattle.terms.proofs.unifier.variable_at.Reads as variable-at-reads
-use Rattle.terms.proofs.unifier.wide_place.Reads as wide-place-reads
 
--- src/unifier.rt:63:9
 cell-at-requires : tie.Need-cell-at-requires
 cell-at-requires c κs = search needs
 
--- src/unifier.rt:65:9
 returns : tie.Need-returns
-returns c = ?
+returns c = let a = c .before .before .before .before .args .a .now in let b = c .before .before .before .before .args .b .now in let p = c .before .before .before .before .args .place in let q = c .before .before .before .before .args .places .now in look-function a b q p (c .before .cell-at .result) (c .before .cell-at .ensures) (c .if1 .taken)
 
--- src/unifier.rt:67:9
 variable-at-requires : tie.Need-variable-at-requires
 variable-at-requires c κs = search needs
 
--- src/unifier.rt:68:20
 element-copy-out-bound-to : tie.Need-element-copy-out-bound-to
 element-copy-out-bound-to c = search needs
 
--- src/unifier.rt:70:21
 wide-place-requires : tie.Need-wide-place-requires
 wide-place-requires c κs = search needs
 
--- src/unifier.rt:59:1
 returns-2 : tie.Need-returns-2
-returns-2 c = ?
+returns-2 c = let a = c .before .before .before .before .before .before .before .before .args .a .now in let b = c .before .before .before .before .before .before .before .before .args .b .now in let p = c .before .before .before .before .before .before .before .before .args .place in let q = c .before .before .before .before .before .before .before .before .args .places .now in look-bound a b q p (c .before .before .before .before .before .cell-at .result) (c .before .before .before .variable-at .result) (c .wide-place .result) (c .before .before .before .before .before .cell-at .ensures) (c .before .before .before .before .if1 .left) (c .before .before .before .variable-at .ensures .0) (c .wide-place .ensures .0) (c .before .if2 .taken)
 
--- src/unifier.rt:59:1
 returns-3 : tie.Need-returns-3
-returns-3 c = ?
+returns-3 c = let a = c .before .before .before .before .before .before .before .args .a .now in let b = c .before .before .before .before .before .before .before .args .b .now in let p = c .before .before .before .before .before .before .before .args .place in let q = c .before .before .before .before .before .before .before .args .places .now in look-unbound a b q p (c .before .before .before .before .cell-at .result) (c .before .before .variable-at .result) (c .before .before .before .before .cell-at .ensures) (c .before .before .before .if1 .left) (c .before .before .variable-at .ensures .0) (c .if2 .left)
 
 pub look-at-spec : {M : Type 1} → statement M
 look-at-spec =

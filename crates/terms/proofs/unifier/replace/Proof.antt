@@ -1,63 +1,57 @@
+-- `replace` meets its contract. The invariant: the sets passed are replaced, the others are as they were. The measure is what is left of the 32.
+-- Assumes nothing.
+use Prim.Native.Nat.{ℕ, _-_, _≤_}
+use native.Mathlib.Omega.{arith}
+use borrow.Author.Needs.{needs}
+use mathlib.Core.Path.{refl}
+use mathlib.Core.Logic.{⊎-elim}
+use lib.ListN.{getD}
+use lib.Dec.{T}
+use Rattle.terms.proofs.Replacing.{Halfway, bit-within, halfway-with, halfway-without}
 use Rattle.terms.proofs.unifier.replace.Statement.{statement}
 use Rattle.terms.proofs.unifier.replace.Tie as tie
-use Rattle.terms.proofs.unifier.replace.Reads as reads
-use Rattle.terms.proofs.unifier.replace.Lts as lts
-use Rattle.terms.proofs.walk.has.Reads as has-reads
-use Rattle.terms.proofs.walk.only.Reads as only-reads
 
 abbrev Inv-loop : tie.InvT-loop
-Inv-loop sets₀ x gained y₀ sets y = ?
+Inv-loop sets₀ x gained y₀ sets y = (y ≤ 32) × Halfway x gained sets₀ sets y
 
 abbrev μ-loop : tie.MeasureT-loop
-μ-loop sets₀ x gained y₀ sets y = ?
+μ-loop sets₀ x gained y₀ sets y = 32 - y
 
--- src/unifier.rt:98:5
 loop-holds : tie.Need-loop-holds Inv-loop μ-loop
-loop-holds c = ?
+loop-holds c = (omega arith, record { as-many = c .pre .1; passed = λ w q. absurd (omega arith); to-come = λ w q. refl })
 
--- src/unifier.rt:99:19
 mul-set : tie.Need-mul-set Inv-loop μ-loop
-mul-set c = ?
+mul-set c = search needs
 
--- src/unifier.rt:99:19
 element-copy-out-set : tie.Need-element-copy-out-set Inv-loop μ-loop
-element-copy-out-set c = ?
+element-copy-out-set c = search needs
 
--- src/unifier.rt:100:12
 has-requires : tie.Need-has-requires Inv-loop μ-loop
-has-requires c κs = ?
+has-requires c κs = search needs
 
--- src/unifier.rt:101:30
 only-requires : tie.Need-only-requires Inv-loop μ-loop
-only-requires c κs = ?
+only-requires c κs = search needs
 
--- src/unifier.rt:101:24
 sub-sets : tie.Need-sub-sets Inv-loop μ-loop
-sub-sets c = ?
+sub-sets c = rw (c .only .ensures) (bit-within (getD (c .before .before .before .before .before .loop .sets) (c .before .before .before .before .before .loop .y) 0) (c .before .before .before .before .before .before .args .x) (c .before .before .has .ensures .0 (rw (c .before .if1 .taken) tt)))
 
--- src/unifier.rt:101:13
 mul-sets : tie.Need-mul-sets Inv-loop μ-loop
-mul-sets c = ?
+mul-sets c = omega (arith, c .before .before .before .before .loop-test .taken)
 
--- src/unifier.rt:101:13
 element-write-sets : tie.Need-element-write-sets Inv-loop μ-loop
-element-write-sets c = ?
+element-write-sets c = omega (arith, c .before .before .before .before .loop-test .taken)
 
--- src/unifier.rt:103:9
 add-y : tie.Need-add-y Inv-loop μ-loop
-add-y c = ?
+add-y c = omega (arith, c .before .before .before .loop-test .taken)
 
--- src/unifier.rt:98:5
 loop-less : tie.Need-loop-less Inv-loop μ-loop
-loop-less c = ?
+loop-less c = omega (arith, c .before .before .before .loop-test .taken)
 
--- src/unifier.rt:98:5
 loop-again : tie.Need-loop-again Inv-loop μ-loop
-loop-again c = ?
+loop-again c = (omega (arith, c .before .before .before .loop-test .taken), ⊎-elim (λ w. rw (w .2, w .1 .ensures) (halfway-with (c .before .before .before .before .before .args .x) (c .before .before .before .before .before .args .gained) (c .before .before .before .before .before .args .sets .now) (c .before .before .before .before .loop .sets) (c .before .before .before .before .loop .y) (omega (arith, c .before .before .before .loop-test .taken)) (c .before .before .before .before .loop .inv .1) (c .before .has .ensures .0 (rw (w .0 .taken) tt)))) (λ w. rw (w .1) (halfway-without (c .before .before .before .before .before .args .x) (c .before .before .before .before .before .args .gained) (c .before .before .before .before .before .args .sets .now) (c .before .before .before .before .loop .sets) (c .before .before .before .before .loop .y) (omega (arith, c .before .before .before .loop-test .taken)) (c .before .before .before .before .loop .inv .1) (λ b. let n : T (c .before .has .result) = c .before .has .ensures .1 b in rw (w .0 .left) at n))) (c .if1 .came))
 
--- src/unifier.rt:93:1
 returns : tie.Need-returns Inv-loop μ-loop
-returns c = ?
+returns c = record { as-many = c .before .loop .inv .1 .as-many; each = λ y h. c .before .loop .inv .1 .passed y (omega (arith, c .loop-test .left)) }
 
 pub replace-spec : {M : Type 1} → statement M
 replace-spec =
