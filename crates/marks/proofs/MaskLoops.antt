@@ -7,9 +7,11 @@ use mathlib.Core.Logic.{_↔_, _⊎_, inl, inr, ⊎-elim}
 use mathlib.Core.List.{List}
 use lib.ListN.{getD}
 use lib.Bits.{bitOr, bitXor}
+use Rattle.terms.specs.Cells.{variables}
 use Rattle.terms.specs.Mask.{Has, Marks}
-use Rattle.terms.proofs.Masks.{has-none, has-decided, has-or, has-one, same-marks}
-use Rattle.marks.proofs.SingleBits.{has-without, has-xor, JustOne}
+use Rattle.terms.proofs.Masks.{has-none, has-or, has-one, same-marks}
+use Rattle.terms.proofs.Replacing.{without-bit}
+use Rattle.marks.proofs.SingleBits.{has-xor, JustOne}
 
 abbrev pub Done : ℕ → ℕ → ℕ → Type 0
 Done asked left y = Has asked y × (Has left y → ⊥)
@@ -19,7 +21,7 @@ abbrev pub Within : ℕ → ℕ → Type 0
 Within asked left = (y : ℕ) → Has left y → Has asked y
 
 pub within-without : (asked left x : ℕ) → Has left x → Within asked left → Within asked (left - 2 ^ x)
-within-without asked left x h w y b = w y (has-without x left h y .0 b .0)
+within-without asked left x h w y b = w y (without-bit left x h y .0 b .0)
 
 -- a turn does one variable more
 pub done-one-more : (asked left x : ℕ) → Has left x → Within asked left → (y : ℕ) → Done asked (left - 2 ^ x) y ↔ (Done asked left y ⊎ (y ≡ x))
@@ -27,13 +29,13 @@ done-one-more asked left x h w y = (λ d. at d (ℕ-discrete y x), ⊎-elim earl
   where
     at : Done asked (left - 2 ^ x) y → Dec (y ≡ x) → Done asked left y ⊎ (y ≡ x)
     at d (yes e) = inr e
-    at d (no n) = inl (d .0, λ b. d .1 (has-without x left h y .1 (b, n)))
+    at d (no n) = inl (d .0, λ b. d .1 (without-bit left x h y .1 (b, n)))
 
     earlier : Done asked left y → Done asked (left - 2 ^ x) y
-    earlier d = (d .0, λ b. d .1 (has-without x left h y .0 b .0))
+    earlier d = (d .0, λ b. d .1 (without-bit left x h y .0 b .0))
 
     now : y ≡ x → Done asked (left - 2 ^ x) y
-    now e = (rw e (w x h), λ b. has-without x left h y .0 b .1 e)
+    now e = (rw e (w x h), λ b. without-bit left x h y .0 b .1 e)
 
 -- the union of the sets of the variables that are done
 abbrev pub Gathered : List ℕ → ℕ → ℕ → ℕ → ℕ → Type 0
@@ -82,12 +84,12 @@ module _ (In : ℕ → Type 0) (asked left mask x : ℕ) (h : Has left x) (w : W
 
 -- the variables asked for, sorted: those of which `In` holds are in `within`, the others in `out`, and some are left
 pub record Sorting (In : ℕ → Type 0) (asked left within out : ℕ) : Type 0 where
-  pub small : left < 2 ^ 16
+  pub small : left < 2 ^ variables
   pub was-asked : Within asked left
   pub ins : Sorted In asked left within
   pub outs : Sorted (λ y. In y → ⊥) asked left out
 
-pub sorting-none : (In : ℕ → Type 0) (asked : ℕ) → asked < 2 ^ 16 → Sorting In asked asked 0 0
+pub sorting-none : (In : ℕ → Type 0) (asked : ℕ) → asked < 2 ^ variables → Sorting In asked asked 0 0
 sorting-none In asked small = record { small = small; was-asked = λ y b. b; ins = sorted-none In asked; outs = sorted-none (λ y. In y → ⊥) asked }
 
 module _ (In : ℕ → Type 0) (asked left within out x : ℕ) (h : Has left x) (s : Sorting In asked left within out) where

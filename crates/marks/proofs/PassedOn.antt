@@ -2,7 +2,7 @@
 use Prim.Native.Nat.{ℕ, _+_}
 use native.Mathlib.Nat.{zero-add}
 use mathlib.Core.Path.{_≡_, sym, ap}
-use mathlib.Core.Logic.{_↔_, _⊎_, ⊎-map}
+use mathlib.Core.Logic.{_↔_, ⊎-map}
 use mathlib.Core.List.{List}
 use lib.ListN.{getD}
 use Rattle.terms.specs.Term.{Term, Subst, Occ, All}

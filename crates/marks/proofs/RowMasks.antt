@@ -2,12 +2,12 @@
 use Prim.Native.Nat.{ℕ, _+_, _^_, _<_}
 use native.Mathlib.Omega.{arith}
 use native.Mathlib.Decide.{decLt}
-use mathlib.Core.Path.{_≡_, sym, subst}
+use mathlib.Core.Path.{_≡_}
 use mathlib.Core.Logic.{_⊎_, inl, inr, ⊎-elim}
 use mathlib.Core.List.{List}
 use lib.ListN.{getD}
 use lib.Bits.{bitOr}
-use Rattle.terms.specs.Term.{Term, Occ}
+use Rattle.terms.specs.Term.{Term}
 use Rattle.terms.specs.Mask.{Has, Marks}
 use Rattle.terms.proofs.Masks.{has-none, has-or, has-one}
 use Rattle.marks.specs.Modes.{Kept, Renumbered, Reordered, InOrder}

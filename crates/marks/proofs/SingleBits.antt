@@ -1,15 +1,15 @@
--- Single variables of a mask: the lowest that it marks, a mask without one of its variables, and variables that just one of two masks marks.
-use Prim.Native.Nat.{ℕ, zero, suc, _+_, _-_, _*_, _/_, _%_, _^_, _≤_, _<_}
+-- Single variables of a mask: the lowest that it marks, and variables that just one of two masks marks.
+use Prim.Native.Nat.{ℕ, zero, suc, _/_, _%_, _^_, _≤_, _<_}
 use native.Mathlib.Omega.{arith}
-use native.Mathlib.Decide.{ℕ-discrete}
 use native.Mathlib.Nat.{div-one, mod-lt, pow-succ'}
-use mathlib.Core.Path.{_≡_, refl, sym, ap, _∙_}
+use mathlib.Core.Path.{_≡_, refl}
 use mathlib.Core.Logic.{_↔_, _⊎_, inl, inr}
 use lib.Bits.{bitXor, differ, xor-step, xor-shr}
 use lib.Count.{trailingZeros, under}
-use lib.Pow.{pow-mono}
+use Rattle.terms.specs.Cells.{variables}
 use Rattle.terms.specs.Mask.{Has, Marks}
-use Rattle.terms.proofs.Masks.{halved, has-none, has-decided}
+use Rattle.terms.proofs.Masks.{halved}
+use Rattle.terms.proofs.Replacing.{bit-within}
 
 first-bit : (m : ℕ) → m / 2 ^ 0 ≡ m
 first-bit m = div-one m
@@ -29,39 +29,11 @@ lowest-has (suc k) m some small = at (lowest-has k (m / 2)) (m % 2) refl
     at rest (suc zero) e = (rw first-bit e, omega arith)
     at rest (suc (suc d)) e = absurd (omega arith)
 
--- a marked variable's bit is no more than the mask
-pub bit-within : (x m : ℕ) → Has m x → 2 ^ x ≤ m
-bit-within zero m h = let o : m % 2 ≡ 1 = rw first-bit at h in omega arith
-bit-within (suc x) m h =
-    let w = bit-within x (m / 2) (rw halved h) in
-    let p = pow-succ' 2 x in
-    omega arith
-
--- the mask without one of its variables
-pub has-without : (x m : ℕ) → Has m x → Marks (λ v. Has m v × (v ≡ x → ⊥)) (m - 2 ^ x)
-has-without zero m h zero = let o : m % 2 ≡ 1 = rw first-bit at h in (
-  λ b. absurd (let z : (m - 1) % 2 ≡ 1 = rw first-bit at b in omega arith),
-  λ b. absurd (b .1 refl),
-)
-has-without zero m h (suc v) =
-    let o : m % 2 ≡ 1 = rw first-bit at h in
-    let e : (m - 1) / 2 ≡ m / 2 = omega arith in
-    let same : (m - 1) / 2 ^ suc v ≡ m / 2 ^ suc v = sym (halved (m - 1) v) ∙ ap (λ (n : ℕ). n / 2 ^ v) e ∙ halved m v in
-    (λ b. (rw (← same) b, λ q. omega arith), λ b. rw same (b .0))
-has-without (suc x) m h zero =
-    let w = bit-within (suc x) m h in
-    let p = pow-succ' 2 x in (
-      λ b. (let z : (m - 2 ^ suc x) % 2 ≡ 1 = rw first-bit at b in rw first-bit (omega arith), λ q. omega arith),
-      λ b. let z : m % 2 ≡ 1 = rw first-bit at (b .0) in rw first-bit (omega arith),
-    )
-has-without (suc x) m h (suc v) =
-    let w = bit-within (suc x) m h in
-    let p = pow-succ' 2 x in
-    let e : (m - 2 ^ suc x) / 2 ≡ m / 2 - 2 ^ x = omega arith in
-    let i : Has ((m - 2 ^ suc x) / 2) v ↔ (Has (m / 2) v × (v ≡ x → ⊥)) = rw e (has-without x (m / 2) (rw halved h) v) in (
-      λ b. let k = i .0 (rw halved b) in (rw halved at (k .0), λ q. k .1 (omega arith)),
-      λ b. rw halved at (i .1 (rw halved (b .0), λ q. b .1 (ap suc q))),
-    )
+-- a mask's lowest variable is its own and below 16, and its bit can be taken away
+pub lowest-turn : (left x : ℕ) → 0 < left → left < 2 ^ variables → x ≡ trailingZeros variables left → Has left x × (x < variables) × (2 ^ x ≤ left)
+lowest-turn left x some small e =
+    let h = lowest-has variables left some small in
+    rw e (h .0, h .1, bit-within left (trailingZeros variables left) (h .0))
 
 -- one of two, and not the other
 abbrev pub JustOne : Type 0 → Type 0 → Type 0
@@ -91,9 +63,3 @@ has-xor a b v =
     let s = xor-step (a / 2 ^ v) (b / 2 ^ v) in
     let e : bitXor (a / 2 ^ v) (b / 2 ^ v) % 2 ≡ differ (a / 2 ^ v % 2) (b / 2 ^ v % 2) = let l = d .0 in omega arith in
     rw (xor-shr a b v, e) (d .1)
-
--- a 16-bit mask's lowest variable is its own and below 16, and its bit can be taken away
-pub lowest-turn : (left x : ℕ) → 0 < left → left < 2 ^ 16 → x ≡ trailingZeros 16 left → Has left x × (x < 16) × (2 ^ x ≤ left)
-lowest-turn left x some small e =
-    let h = lowest-has 16 left some small in
-    rw e (h .0, h .1, bit-within (trailingZeros 16 left) left (h .0))

@@ -1,10 +1,11 @@
 -- `known` meets its contract: the loop gathers the sets of the variables that are done, lowest first. Assumes nothing.
-use Prim.Native.Nat.{ℕ, _^_, _≤_, _<_}
+use Prim.Native.Nat.{_^_, _≤_, _<_}
 use native.Mathlib.Omega.{arith}
 use mathlib.Core.Path.{_≡_}
 use borrow.Author.Needs.{needs}
 use lib.Bits.{bitAnd, and-le-l}
 use lib.Pow.{pow-pos}
+use Rattle.terms.specs.Cells.{variables}
 use Rattle.terms.specs.Mask.{Has}
 use Rattle.marks.proofs.SingleBits.{lowest-turn}
 use Rattle.marks.proofs.MaskLoops.{Within, Gathered, within-without, gathered-none, gathered-more}
@@ -13,14 +14,14 @@ use Rattle.marks.proofs.pass.known.Statement.{statement}
 use Rattle.marks.proofs.pass.known.Tie as tie
 
 abbrev Inv-loop : tie.InvT-loop
-Inv-loop sets base mask present left₀ all₀ left all = (left < 65536) × Within left₀ left × Gathered sets base left₀ left all
+Inv-loop sets base mask present left₀ all₀ left all = (left < 2 ^ variables) × Within left₀ left × Gathered sets base left₀ left all
 
 abbrev μ-loop : tie.MeasureT-loop
 μ-loop sets base mask present left₀ all₀ left all = left
 
 -- a turn takes a variable that is left
 turn : (c : tie.After-lowest Inv-loop μ-loop)
-    → Has (c .before .before .loop .left) (c .lowest .result) × (c .lowest .result < 16) × (2 ^ c .lowest .result ≤ c .before .before .loop .left)
+    → Has (c .before .before .loop .left) (c .lowest .result) × (c .lowest .result < variables) × (2 ^ c .lowest .result ≤ c .before .before .loop .left)
 turn c = lowest-turn _ _ (c .before .loop-test .taken) (c .before .before .loop .inv .0) (c .lowest .ensures)
 
 loop-holds : tie.Need-loop-holds Inv-loop μ-loop

@@ -1,11 +1,12 @@
 -- `pass_on` meets its contract: the loop sorts the variables asked for by whether their sets are inside the known ones, so that just one side has each. Assumes nothing.
-use Prim.Native.Nat.{ℕ, _+_, _-_, _^_, _≤_, _<_}
+use Prim.Native.Nat.{_^_, _≤_, _<_}
 use native.Mathlib.Omega.{arith}
 use borrow.Author.Needs.{needs}
 use mathlib.Core.Path.{_≡_}
 use mathlib.Core.Logic.{⊎-elim}
 use lib.Bits.{bitAnd, bitXor, and-lt, xor-lt}
 use lib.Pow.{pow-pos}
+use Rattle.terms.specs.Cells.{variables}
 use Rattle.terms.specs.Mask.{Has}
 use Rattle.marks.proofs.SingleBits.{lowest-turn}
 use Rattle.marks.proofs.MaskLoops.{Sorting, sorting-none, sorting-in, sorting-out, just-one-side}
@@ -22,7 +23,7 @@ abbrev μ-loop : tie.MeasureT-loop
 
 -- a turn takes a variable that is left
 turn : (c : tie.After-lowest Inv-loop μ-loop)
-    → Has (c .before .before .loop .left) (c .lowest .result) × (c .lowest .result < 16) × (2 ^ c .lowest .result ≤ c .before .before .loop .left)
+    → Has (c .before .before .loop .left) (c .lowest .result) × (c .lowest .result < variables) × (2 ^ c .lowest .result ≤ c .before .before .loop .left)
 turn c = lowest-turn _ _ (c .before .loop-test .taken) (c .before .before .loop .inv .small) (c .lowest .ensures)
 
 known-requires : tie.Need-known-requires Inv-loop μ-loop
@@ -32,7 +33,7 @@ loop-holds : tie.Need-loop-holds Inv-loop μ-loop
 loop-holds c =
     let a = c .before .args in
     sorting-none (Inside (a .sets .now) (a .to) (c .known .result)) _
-    (xor-lt 16 (a .there) (bitAnd (a .there) (a .n)) (search needs) (and-lt 16 (a .there) (a .n) (search needs) (search needs)))
+    (xor-lt variables (a .there) (bitAnd (a .there) (a .n)) (search needs) (and-lt variables (a .there) (a .n) (search needs) (search needs)))
 
 lowest-requires : tie.Need-lowest-requires Inv-loop μ-loop
 lowest-requires c κs = search needs
