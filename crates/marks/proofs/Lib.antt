@@ -3,6 +3,7 @@ pub mod SingleBits
 pub mod MaskLoops
 pub mod SetsPassed
 pub mod RowMasks
+pub mod AtomVariables
 pub mod PassedOn
 pub mod Passing
 pub mod Modes

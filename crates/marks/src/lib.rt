@@ -2,3 +2,4 @@
 pub mod bits;
 pub mod pass;
 pub mod rows;
+pub mod variables;
