@@ -23,7 +23,7 @@ use Rattle.terms.proofs.Solutions.{bind, bind-same, bind-other, occurs-
 use Rattle.terms.proofs.Standing.{stands-sub, unbound-itself, full-more}
 use Rattle.terms.proofs.Stores.{solves-sub, extended, extended-solves}
 use Rattle.terms.proofs.Walks.{Union}
-use Rattle.terms.proofs.Standings.{baseOf, base-small, Next, next-term}
+use Rattle.terms.proofs.Standings.{base-small, Next, next-term}
 
 in-append : (v : ℕ) (l m : List ℕ) → InRun v (l ++ m) ↔ (InRun v l ⊎ InRun v m)
 in-append v [] m = (inr, ⊎-elim absurd (λ o. o))

@@ -16,5 +16,7 @@ pub mod Replacing
 pub mod Standings
 pub mod Binding
 pub mod Joining
+pub mod Bound
+pub mod Weight
 pub mod Standing
 pub mod Stores

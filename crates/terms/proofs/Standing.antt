@@ -18,7 +18,7 @@ abbrev pub Bindings : Type 0
 Bindings = ℕ → Option Term
 
 -- where every variable stands for something, so does every term, in at most so many steps for each of its cells
-mutual
+unfoldable mutual
   pub stands-sub : (b : Bindings) (σ : Subst) (c : ℕ) → Full b σ c → (t : Term)
       → (d : Stands b t (sub t σ)) × (steps d ≤ length (enc t) * suc (suc c))
   stands-sub b σ c F (var x) = (F .stands x, rw one-mul (omega (arith, F .few x)))

@@ -13,14 +13,10 @@ use Rattle.terms.specs.Term.{Term, Terms, var, app, nil, cons, count, jo
 use Rattle.terms.specs.Cells.{enc, encs, Keeps, Keepss, takeTerms, termsOf, firstVariable, variables, atomCells, pick, Run}
 use Rattle.terms.specs.Walk.{cellsOf}
 use Rattle.terms.specs.Store.{secondAtom, second, cellsAt, termsAt, variableAt, firstTerm}
-use Rattle.terms.specs.Unifying.{CellAt}
+use Rattle.terms.specs.Unifying.{CellAt, baseOf}
 use Rattle.terms.proofs.Runs.{terms-encs, run-terms, take-join}
 use Rattle.terms.proofs.Steps.{First, variable, function, first-of, run-cell, run-within, encs-join, keeps-join, count-join}
 use Rattle.terms.proofs.Places.{cells-first, cells-second, place-within}
-
--- where the variables of the atom at a place begin in the store
-abbrev pub baseOf : ℕ → ℕ
-baseOf p = pick (ltb p secondAtom) 0 variables
 
 -- an atom's terms in the store's numbering
 abbrev pub kept-apart : ℕ → Terms → Terms

@@ -8,10 +8,10 @@ use mathlib.Core.List.{List, [], _∷_}
 use lib.ListN.{length, getD}
 use lib.Dec.{ltb}
 use Rattle.terms.specs.Term.{Term, Terms, var, app, nil, cons, Subst, sub, subs, Occ}
-use Rattle.terms.specs.Cells.{firstVariable, atomCells, pick, takeTerms, Run}
+use Rattle.terms.specs.Cells.{firstVariable, variables, atomCells, pick, Run}
 use Rattle.terms.specs.Mask.{Has}
 use Rattle.terms.specs.Walk.{Cells}
-use Rattle.terms.specs.Store.{noPlace, cellsAt, termsAt, variableAt, firstTerm, bound, Stands, StandAll, unbound, followed, node, done, more}
+use Rattle.terms.specs.Store.{secondAtom, noPlace, cellsAt, termsAt, variableAt, firstTerm, bound, Stands, StandAll, unbound, followed, node, done, more}
 use Rattle.terms.specs.declared.unifier.Look.{Look}
 use Rattle.terms.specs.declared.unifier.Look.the-variants.{Unbound, Bound, Function}
 
@@ -99,3 +99,17 @@ Replaced x gained s s′ = (z : ℕ) → Has s′ z ↔ ((Has s z × (z ≡ x �
 pub record AllReplaced (x gained : ℕ) (sets sets′ : List ℕ) : Type 0 where
   pub as-many : length sets′ ≡ 32
   pub each : (y : ℕ) → y < 32 → Replaced x gained (getD sets y 0) (getD sets′ y 0)
+
+-- where the variables of the atom at a place begin in the store
+abbrev pub baseOf : ℕ → ℕ
+baseOf p = pick (ltb p secondAtom) 0 variables
+
+-- x can be bound to the term at a place
+pub record Bindable (arities a b places sets : List ℕ) (x p : ℕ) : Type 0 where
+  pub σ : Subst
+  pub kept : Kept arities a b places sets σ
+  pub small : x < 32
+  pub unbound-yet : bound arities a b places x ≡ none
+  pub run : Run arities (cellsAt a b p) 1
+  pub is-place : p < noPlace
+  pub way : Followed (bound arities a b places) x (firstTerm (termsAt arities a b p))

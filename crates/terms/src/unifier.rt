@@ -6,15 +6,13 @@ use crate::walk::terms_end;
 use crate::walk::union_of;
 use crate::walk::wide;
 ghost use mathlib.Core.Path.{_≡_};
-ghost use mathlib.Core.Option.{none};
 ghost use Prim.Native.Nat.{ℕ, _+_, _-_, _≤_, _<_};
 ghost use lib.ListN.{length, getD, take};
-ghost use Rattle.terms.specs.Term.{Subst, var, nil, cons};
-ghost use Rattle.terms.specs.Cells.{Run, takeTerms};
-ghost use Rattle.terms.specs.Mask.{Has};
+ghost use Rattle.terms.specs.Term.{var, nil, cons};
+ghost use Rattle.terms.specs.Cells.{Run};
 ghost use Rattle.terms.specs.Walk.{cellsOf};
-ghost use Rattle.terms.specs.Store.{cellsAt, termsAt, variableAt, firstTerm, bound};
-ghost use Rattle.terms.specs.Unifying.{lookAt, CellAt, Kept, Outcome, Followed, AllReplaced};
+ghost use Rattle.terms.specs.Store.{cellsAt, termsAt, variableAt, firstTerm};
+ghost use Rattle.terms.specs.Unifying.{lookAt, CellAt, baseOf, Bindable, Outcome, AllReplaced};
 
 // Places below this are in the first atom, the others in the second.
 pub const SECOND_ATOM: usize = 64;
@@ -108,4 +106,48 @@ fn replace(sets: &mut [u32; 32], x: usize, gained: u32)
         }
         y += 1;
     }
+}
+
+// Where the variables of the atom at a place begin in the store.
+fn base_of(place: usize) -> usize
+    ensures { λ r. ⌜ (r ≡ baseOf place) × (r ≤ 16) ⌝ }
+{
+    if place < SECOND_ATOM {
+        return 0;
+    }
+    FIRST_VARIABLES
+}
+
+// Binds the unbound variable x to the term at a place; false where x occurs in what that stands for.
+fn bind<'a>(
+    a: &'a [u16],
+    b: &'a [u16],
+    functions: &[u16],
+    x: usize,
+    place: usize,
+    places: &mut [u8; 32],
+    sets: &mut [u32; 32],
+) -> bool
+    requires { ⌜ Bindable (now functions) (now a) (now b) (now places) (now sets) x place ⌝ }
+    ensures { λ r. ⌜ Outcome (now (functions .entry)) (now (a .entry)) (now (b .entry)) (now (places .entry)) (now (sets .entry))
+      (cons (var x) nil) (cons (firstTerm (termsAt (now (functions .entry)) (now (a .entry)) (now (b .entry)) place)) nil) r (now (places .exit)) (now (sets .exit)) ⌝ }
+{
+    let run = resolve(a, b, functions, place);
+    let base = base_of(place);
+    let gained = union_of(run, base, sets);
+    if has(gained, x) {
+        return false;
+    }
+    replace(sets, x, gained);
+    places[x] = place as u8;
+    true
+}
+
+// Where the next term stands behind the one at a place.
+fn after<'a>(a: &'a [u16], b: &'a [u16], functions: &[u16], place: usize) -> usize
+    requires { ⌜ (Run (now functions) (cellsAt (now a) (now b) place) 1) × (place < 128) × (length (cellsAt (now a) (now b) place) ≤ 32) ⌝ }
+    ensures { λ r. ⌜ r ≡ place + cellsOf (now (functions .entry)) (cellsAt (now (a .entry)) (now (b .entry)) place) 1 ⌝ }
+{
+    let run = resolve(a, b, functions, place);
+    place + run.len()
 }
