@@ -1,0 +1,56 @@
+-- The masks of rows: kept to a list, and taken to a shape's numbering by a list of the atom's variables in the shape's order.
+use Prim.Native.Nat.{ℕ, _+_, _^_, _<_}
+use native.Mathlib.Omega.{arith}
+use native.Mathlib.Decide.{decLt}
+use mathlib.Core.Path.{_≡_}
+use mathlib.Core.Logic.{_⊎_, inl, inr, ⊎-elim}
+use mathlib.Core.List.{List}
+use lib.ListN.{getD}
+use lib.Bits.{bitOr}
+use Rattle.terms.specs.Term.{Term}
+use Rattle.terms.specs.Mask.{Has, Marks}
+use Rattle.terms.proofs.Masks.{has-none, has-or, has-one}
+use Rattle.marks.specs.Modes.{Kept, Renumbered, Reordered, InOrder}
+
+-- a list's mask keeps what the list keeps
+pub kept-by-list : {P : ℕ → Type 0} (list M R : ℕ) → Marks P list → Kept (Has list) M R → Kept P M R
+kept-by-list list M R p k v = (
+  λ b. let h = k v .0 b in (p v .0 (h .0), h .1),
+  λ h. k v .1 (p v .1 (h .0), h .1),
+)
+
+-- marks put in the list's order are marks in the shape's numbering
+pub reordered-renumbered : {A : Term} {f : ℕ → ℕ} (order : List ℕ) (count M R : ℕ) → InOrder A f order count → Reordered order count M R → Renumbered A f M R
+reordered-renumbered {f = f} order count M R o r k = (
+  λ b. let h = r k .0 b in let p = o .present k (h .0) in (getD order k 0, p .0, p .1, h .1),
+  λ h.
+      let p = o .placed (h .0) (h .1) in
+      let l : k < count = rw (h .2) at (p .0) in
+      let e : getD order k 0 ≡ h .0 = rw (h .2) at (p .1) in
+      r k .1 (l, rw e (h .3)),
+)
+
+pub reordered-none : (order : List ℕ) (M : ℕ) → Reordered order 0 M 0
+reordered-none order M k = (λ b. absurd (has-none k b), λ h. absurd (let l = h .0 in omega arith))
+
+-- one variable of the shape more
+module _ (order : List ℕ) (k M R : ℕ) (r : Reordered order k M R) where
+  at-or-before : (j : ℕ) → j < k + 1 → Dec (j < k) → (j < k) ⊎ (j ≡ k)
+  at-or-before j l (yes b) = inl b
+  at-or-before j l (no n) = inr (omega arith)
+
+  pub reordered-marked : Has M (getD order k 0) → Reordered order (k + 1) M (bitOr R (2 ^ k))
+  reordered-marked m j = (
+    λ b. ⊎-elim
+        (λ h. let e = r j .0 h in (let l = e .0 in omega arith, e .1))
+        (λ h. let q = has-one k j .0 h in (omega arith, rw q m))
+        (has-or R (2 ^ k) j .0 b),
+    λ h. has-or R (2 ^ k) j .1 (
+        ⊎-elim (λ l. inl (r j .1 (l, h .1))) (λ q. inr (has-one k j .1 q)) (at-or-before j (h .0) (decLt j k))),
+  )
+
+  pub reordered-unmarked : (Has M (getD order k 0) → ⊥) → Reordered order (k + 1) M R
+  reordered-unmarked n j = (
+    λ b. let e = r j .0 b in (let l = e .0 in omega arith, e .1),
+    λ h. ⊎-elim (λ l. r j .1 (l, h .1)) (λ q. absurd (n (rw q at (h .1)))) (at-or-before j (h .0) (decLt j k)),
+  )

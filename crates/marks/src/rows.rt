@@ -1,0 +1,46 @@
+// What the rules do with the masks of rows: put together, kept to a list, taken to a shape's numbering.
+use crate::bits::mark;
+use crate::bits::marks;
+ghost use mathlib.Core.Path.{_≡_};
+ghost use Prim.Native.Nat.{ℕ, _≤_, _<_};
+ghost use lib.ListN.{getD};
+ghost use Rattle.terms.specs.Cells.{variables};
+ghost use Rattle.terms.specs.Mask.{Has};
+ghost use Rattle.marks.specs.Modes.{Together, Kept, Reordered};
+
+// "the cont row's marks together with those that the solution passes"
+pub fn together(m: u16, n: u16) -> u16
+    ensures { λ r. ⌜ Together m n r ⌝ }
+{
+    m | n
+}
+
+// "A cont mask has no bit outside its list."
+pub fn kept(list: u16, mask: u16) -> u16
+    ensures { λ r. ⌜ Kept (Has list) mask r ⌝ }
+{
+    list & mask
+}
+
+// A variable as an index.
+fn wide_variable(v: u8) -> usize
+    ensures { λ r. ⌜ r ≡ v ⌝ }
+{
+    v as usize
+}
+
+// A clause's marks in the numbering of a shape, whose variable k is the clause's variable order[k].
+pub fn renumber(order: &[u8; 16], count: usize, mask: u16) -> u16
+    requires { ⌜ (count ≤ variables) × ((k : ℕ) → k < count → getD (now order) k 0 < variables) ⌝ }
+    ensures { λ r. ⌜ Reordered (now (order .entry)) count mask r ⌝ }
+{
+    let mut renumbered = 0u16;
+    let mut k = 0;
+    while k < count {
+        if marks(mask, wide_variable(order[k])) {
+            renumbered = renumbered | mark(k);
+        }
+        k += 1;
+    }
+    renumbered
+}
