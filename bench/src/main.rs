@@ -1,5 +1,8 @@
 //! Holds the library beside a plain Rust implementation of document 01: answers first, then times.
 
+mod generate;
+mod large;
+mod random;
 mod reference;
 mod vectors;
 
@@ -10,6 +13,7 @@ use std::process::exit;
 fn main() {
     let arguments: Vec<String> = std::env::args().skip(1).collect();
     match &arguments.iter().map(String::as_str).collect::<Vec<_>>()[..] {
+        ["large"] => large::print(),
         ["reference", path] => reference_alone(Path::new(path)),
         _ => {
             eprintln!("usage: bench reference FOLDER-OF-VECTORS | bench reference TEXT");

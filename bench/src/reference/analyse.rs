@@ -292,4 +292,21 @@ impl<'a> Analysis<'a> {
         }
         Ok(())
     }
+
+    /// How many pairs of a cont row and a solution row rule 2 has, and of marks on a head and a call row rule 3.
+    pub fn combinations(&self) -> (usize, usize) {
+        let count = |masks: &Masks| masks.list.len();
+        let (mut rule2, mut rule3) = (0, 0);
+        for (shape, waiting) in self.waiting.iter().enumerate() {
+            for Waiting { place, .. } in waiting.iter().flatten() {
+                rule2 += count(&self.conts[*place]) * count(&self.solutions[shape]);
+            }
+        }
+        for (clause, callers) in self.callers.iter().enumerate() {
+            for caller in callers {
+                rule3 += count(&self.heads[clause]) * count(&self.calls[caller.shape]);
+            }
+        }
+        (rule2, rule3)
+    }
 }
