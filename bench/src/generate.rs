@@ -26,10 +26,13 @@ pub struct Size {
 pub fn size(random: &mut Random) -> Size {
     let scale = random.pick(&[1, 2, 2, 3, 3, 4, 8, 16, 64]);
     let at_most = |limit: usize| limit.min(scale);
+    let clauses = random.between(0, at_most(CLAUSES));
+    // Few predicates for the clauses there are, so that most calls find one; now and then any number.
+    let predicates = if random.once_in(8) { at_most(PREDICATES) } else { 1 + clauses / 4 };
     Size {
-        predicates: random.between(1, at_most(PREDICATES)),
+        predicates: random.between(1, predicates),
         functions: random.between(0, at_most(FUNCTIONS)),
-        clauses: random.between(0, at_most(CLAUSES)),
+        clauses,
         body: random.between(0, at_most(BODY)),
         least_arity: 0,
         arity: random.between(0, at_most(ARITY)),

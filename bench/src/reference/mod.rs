@@ -3,6 +3,8 @@
 pub mod analyse;
 pub mod limits;
 pub mod list;
+#[cfg(test)]
+mod literal;
 pub mod masks;
 pub mod plan;
 pub mod program;

@@ -10,8 +10,6 @@ pub type Atom = Range<usize>;
 pub struct Clause {
     pub head: Atom,
     pub body: Vec<Atom>,
-    /// How many variables the head has; they are the first ones.
-    pub head_variables: usize,
 }
 
 pub struct Program<'a> {
@@ -20,7 +18,6 @@ pub struct Program<'a> {
     pub functions: &'a [u16],
     pub clauses: Vec<Clause>,
     pub goal: Atom,
-    pub goal_variables: usize,
     /// The goal's modes as a mask.
     pub goal_mask: u16,
 }
@@ -39,6 +36,7 @@ pub fn variable(cell: u16) -> usize {
     usize::from(cell - FIRST_VARIABLE)
 }
 
+/// The first fault of the words.
 pub fn faults(words: &[u16]) -> Option<Fault> {
     decode(words).err()
 }
@@ -61,7 +59,7 @@ pub fn decode(words: &[u16]) -> Result<Program<'_>, Fault> {
         return Err((7, scan.at));
     }
     let Scan { predicates, functions, .. } = scan;
-    Ok(Program { words, predicates, functions, clauses, goal, goal_variables: met, goal_mask })
+    Ok(Program { words, predicates, functions, clauses, goal, goal_mask })
 }
 
 struct Scan<'a> {
@@ -99,9 +97,8 @@ impl<'a> Scan<'a> {
         let length = self.number(0, BODY)?;
         let mut met = 0;
         let head = self.atom(&mut met)?;
-        let head_variables = met;
         let body = (0..length).map(|_| self.atom(&mut met)).collect::<Result<Vec<_>, _>>()?;
-        Ok(Clause { head, body, head_variables })
+        Ok(Clause { head, body })
     }
 
     /// One atom; `met` is how many variables were met in its clause so far.
