@@ -181,9 +181,10 @@ pub fn damaged_words(random: &mut Random, words: &[u16]) -> Vec<u16> {
 pub fn damaged_text(random: &mut Random, text: &[u8]) -> Vec<u8> {
     let mut text = text.to_vec();
     for _ in 0..random.pick(&[1, 1, 1, 2, 4]) {
-        text = match random.below(5) {
+        text = match random.below(6) {
             0 | 1 => damaged_pieces(random, &text, b'\t'),
             2 => damaged_pieces(random, &text, b'\n'),
+            3 => other_mark(random, text),
             _ => damaged_bytes(random, text),
         };
     }
@@ -200,6 +201,17 @@ fn damaged_bytes(random: &mut Random, mut text: Vec<u8>) -> Vec<u8> {
         3 => text.push(byte),
         _ if at < text.len() => text[at] = byte,
         _ => {}
+    }
+    text
+}
+
+/// `G` for a `V` or the other way, in the last line oftenest.
+fn other_mark(random: &mut Random, mut text: Vec<u8>) -> Vec<u8> {
+    let marks: Vec<usize> = (0..text.len()).filter(|i| matches!(text[*i], b'V' | b'G')).collect();
+    if !marks.is_empty() {
+        let among = if random.once_in(8) { marks.len() } else { marks.len().min(4) };
+        let at = marks[marks.len() - 1 - random.below(among)];
+        text[at] ^= b'V' ^ b'G';
     }
     text
 }
