@@ -132,7 +132,9 @@ fn list_input(random: &mut Random, words: &[u16], names: &[u8]) -> Input {
 /// A large program with the room that `modes` has, and with more.
 fn large_inputs(program: &Sound) -> Vec<Input> {
     let (words, names) = (&program.words, &program.names);
-    let listed = |table_room, out_room| Input::List { words: words.clone(), names: names.clone(), table_room, out_room };
+    let listed = |table_room, out_room| {
+        Input::List { words: words.clone(), names: names.clone(), table_room, out_room }
+    };
     vec![
         Input::Analyse { words: words.clone(), room: ROWS * ROW_WORDS },
         Input::Analyse { words: words.clone(), room: ROWS * ROW_WORDS + 100 },

@@ -218,7 +218,8 @@ fn other_mark(random: &mut Random, mut text: Vec<u8>) -> Vec<u8> {
 
 const TOKENS: [&[u8]; 24] = [
     b"", b"V0", b"V1", b"V15", b"V16", b"V00", b"V", b"G0", b"G1", b"G16", b"V4294967296", b"G99999999999999999999",
-    b"pred", b"func", b"clause", b"query", b"0", b"8", b"9", b"08", b"a23456789_123456", b"a23456789_1234567", b"pred\ta\t0\n", b"A",
+    b"pred", b"func", b"clause", b"query", b"0", b"8", b"9", b"08", b"a23456789_123456",
+    b"a23456789_1234567", b"pred\ta\t0\n", b"A",
 ];
 
 /// Tokens or lines put in, taken out, swapped, written twice or replaced.

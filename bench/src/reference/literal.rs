@@ -3,7 +3,7 @@
 
 use super::analyse::Row;
 use super::limits::*;
-use super::program::{decode, is_variable, Program};
+use super::program::{decode, is_variable, Clause, Program};
 use std::collections::{BTreeMap, BTreeSet};
 
 /// A variable has a side, which keeps the two atoms' variables apart.
@@ -82,8 +82,9 @@ fn pass(a: &Term, m: u16, b: &Term, n: u16) -> Option<u16> {
     let (a, b) = (on_side(a, 0), on_side(b, 1));
     let s = mgu(&a, &b)?;
     let marked = |v: &Variable| m >> v.1 & 1 == 1;
-    let known: BTreeSet<_> = variables(&a).iter().filter(|v| marked(v)).flat_map(|v| variables(&apply(&s, &Var(*v)))).collect();
-    let ground = |v: &Variable| n >> v.1 & 1 == 1 || variables(&apply(&s, &Var(*v))).is_subset(&known);
+    let stands_for = |v: &Variable| variables(&apply(&s, &Var(*v)));
+    let known: BTreeSet<_> = variables(&a).iter().filter(|v| marked(v)).flat_map(stands_for).collect();
+    let ground = |v: &Variable| n >> v.1 & 1 == 1 || stands_for(v).is_subset(&known);
     Some(variables(&b).iter().filter(|v| ground(v)).fold(0, |mask, v| mask | 1 << v.1))
 }
 
@@ -162,7 +163,8 @@ impl Rules {
 fn table(words: &[u16]) -> Vec<Row> {
     let program = decode(words).expect("a sound program");
     let atom = |range| atom(&program, program.cells(range));
-    let clauses: Vec<_> = program.clauses.iter().map(|c| (atom(&c.head), c.body.iter().map(atom).collect::<Vec<_>>())).collect();
+    let body = |clause: &Clause| clause.body.iter().map(atom).collect::<Vec<_>>();
+    let clauses: Vec<_> = program.clauses.iter().map(|c| (atom(&c.head), body(c))).collect();
     let mut shapes: Vec<Term> = Vec::new();
     for a in [atom(&program.goal)].iter().chain(clauses.iter().flat_map(|c| &c.1)) {
         let (shape, _) = shape(a);
