@@ -3,7 +3,7 @@
 
 use super::analyse::Row;
 use super::limits::*;
-use super::program::{decode, is_variable, Clause, Program};
+use super::program::{decode, is_variable, Atom, Clause, Program};
 use std::collections::{BTreeMap, BTreeSet};
 
 /// A variable has a side, which keeps the two atoms' variables apart.
@@ -162,7 +162,7 @@ impl Rules {
 
 fn table(words: &[u16]) -> Vec<Row> {
     let program = decode(words).expect("a sound program");
-    let atom = |range| atom(&program, program.cells(range));
+    let atom = |range: &Atom| atom(&program, program.cells(range));
     let body = |clause: &Clause| clause.body.iter().map(atom).collect::<Vec<_>>();
     let clauses: Vec<_> = program.clauses.iter().map(|c| (atom(&c.head), body(c))).collect();
     let mut shapes: Vec<Term> = Vec::new();
