@@ -1,0 +1,59 @@
+//! Holds the library beside a plain Rust implementation of document 01: answers first, then times.
+
+mod compare;
+mod functions;
+mod generate;
+mod input;
+mod large;
+mod random;
+mod reference;
+mod times;
+mod vectors;
+
+use std::io::Write;
+use std::path::Path;
+use std::process::exit;
+
+/// How many inputs are compared at least.
+const INPUTS: usize = 120_000;
+
+const USAGE: &str = "usage:
+  bench                    compare the library's answers with the reference's, then their times
+  bench times              the times alone
+  bench large              what the large programs cost the reference
+  bench reference FOLDER   hold the reference against a folder of samples (texts/, words.txt)
+  bench reference TEXT     what `modes` prints for a scenario text, by the reference";
+
+fn main() {
+    let arguments: Vec<String> = std::env::args().skip(1).collect();
+    match &arguments.iter().map(String::as_str).collect::<Vec<_>>()[..] {
+        [] => compare_then_time(),
+        ["times"] => times::print(),
+        ["large"] => large::print(),
+        ["reference", path] => reference_alone(Path::new(path)),
+        _ => {
+            eprintln!("{USAGE}");
+            exit(2);
+        }
+    }
+}
+
+fn compare_then_time() {
+    let Some(library) = functions::LIBRARY else {
+        eprintln!("built without the library: run `rt staticlib threadknoll` in the folder above, then this again");
+        exit(2);
+    };
+    if !compare::compare(&library, INPUTS) {
+        exit(1);
+    }
+    times::print();
+}
+
+/// The reference against a folder of samples, or what it prints for a text.
+fn reference_alone(path: &Path) {
+    if path.is_dir() {
+        exit(if vectors::check(path) == 0 { 0 } else { 1 });
+    }
+    let text = std::fs::read(path).expect("a text");
+    std::io::stdout().write_all(&reference::modes(&text)).expect("standard output");
+}
