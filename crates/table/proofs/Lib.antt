@@ -10,3 +10,6 @@ pub mod ModesComputed
 pub mod Samples
 pub mod NoClauses
 pub mod Promise
+pub mod Keys
+pub mod ShapeVariables
+pub mod Regular

@@ -2,3 +2,4 @@
 pub mod Rules
 pub mod Rounds
 pub mod Table
+pub mod Keys
