@@ -13,3 +13,5 @@ pub mod Promise
 pub mod Keys
 pub mod ShapeVariables
 pub mod Regular
+pub mod Added
+pub mod NewRows

@@ -3,3 +3,5 @@ pub mod Rules
 pub mod Rounds
 pub mod Table
 pub mod Keys
+pub mod Added
+pub mod NewRows
