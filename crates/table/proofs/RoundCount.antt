@@ -12,27 +12,7 @@ use Rattle.program.proofs.ShapeLaws.{map-has}
 use Rattle.table.specs.Rules.{Row}
 use Rattle.table.specs.Rounds.{At, First}
 use Rattle.table.proofs.RoundLaws.{first-before}
-
--- a list that has n, without it: one shorter, and it has every other number that it had
-pub record Without (n : ℕ) (l : List ℕ) : Type 0 where
-  pub rest : List ℕ
-  pub shorter : length l ≡ suc (length rest)
-  pub has : (m : ℕ) → (m ≡ n → ⊥) → List·Memᴰ m l → List·Memᴰ m rest
-
-pub without : (n : ℕ) (l : List ℕ) → List·Memᴰ n l → Without n l
-without n (a ∷ l) (List·Memᴰ·head e) = record { rest = l; shorter = refl; has = λ m ne h. other m ne (List·Memᴰ·cases-cons h) }
-  where
-    other : (m : ℕ) → (m ≡ n → ⊥) → (m ≡ a) ⊎ List·Memᴰ m l → List·Memᴰ m l
-    other m ne (inl d) = absurd (ne (d ∙ sym e))
-    other m ne (inr h) = h
-without n (a ∷ l) (List·Memᴰ·tail h) = behind (without n l h)
-  where
-    other : (w : Without n l) (m : ℕ) → (m ≡ n → ⊥) → (m ≡ a) ⊎ List·Memᴰ m l → List·Memᴰ m (a ∷ w .rest)
-    other w m ne (inl d) = List·Memᴰ·head d
-    other w m ne (inr h) = List·Memᴰ·tail (w .has m ne h)
-
-    behind : Without n l → Without n (a ∷ l)
-    behind w = record { rest = a ∷ w .rest; shorter = rw (w .shorter); has = λ m ne h. other w m ne (List·Memᴰ·cases-cons h) }
+use Rattle.table.proofs.Distinct.{without}
 
 -- a list that has every number below n has n elements or more
 pub all-below-count : (n : ℕ) (l : List ℕ) → ((m : ℕ) → m < n → List·Memᴰ m l) → n ≤ length l

@@ -1,3 +1,7 @@
--- The mode rules, the rounds, and the least set of rows.
+-- The mode rules, the rounds, the least set of rows, and the promise of the analysis.
 pub mod Rules
 pub mod Rounds
+pub mod Table
+pub mod Keys
+pub mod Added
+pub mod NewRows
