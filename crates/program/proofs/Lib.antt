@@ -12,3 +12,6 @@ pub mod AtomWords
 pub mod Modes
 pub mod ClauseWords
 pub mod ProgramWords
+pub mod Once
+pub mod ShapeLaws
+pub mod OwnShape
