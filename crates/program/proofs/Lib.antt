@@ -16,3 +16,5 @@ pub mod AtomWords
 pub mod Modes
 pub mod ClauseWords
 pub mod ProgramWords
+pub mod Once
+pub mod ShapeOrder

@@ -1,7 +1,7 @@
 // The encoded program.
-pub mod atoms;
-pub mod cells;
+mod atoms;
+mod cells;
 pub mod limits;
-pub mod part;
+mod part;
 pub mod reply;
 pub mod scan;
