@@ -15,3 +15,4 @@ pub mod ShapeVariables
 pub mod Regular
 pub mod Added
 pub mod NewRows
+pub mod RoundKeys

@@ -4,4 +4,5 @@ pub mod Rounds
 pub mod Table
 pub mod Keys
 pub mod Added
+pub mod Steps
 pub mod NewRows
