@@ -14,5 +14,8 @@ pub mod Keys
 pub mod ShapeVariables
 pub mod Regular
 pub mod Added
+pub mod Steps
 pub mod NewRows
 pub mod RoundKeys
+pub mod Entries
+pub mod RoundEntries

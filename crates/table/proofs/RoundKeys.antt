@@ -106,10 +106,10 @@ module _ (words : List ℕ) (p : Program) (accepted : faults words ≡ sound p) 
           let (row′, r, e) = kept .each (keyOf p row) .0 m in
           same .1 (rw (key-injective p few regular (at-regular words p accepted k row′ r) e) r)
 
-  -- a kept key is the key of a row of the round, which is read back from it
-  pub keyed-row : (k key : ℕ) → Keyed p (At modes p (p .ground) k) key → At modes p (p .ground) k (rowOf p key) × (keyOf p (rowOf p key) ≡ key)
-  keyed-row k key (row, r, e) =
-      let back : rowOf p key ≡ row = ap (rowOf p) e ∙ row-of-key p few (at-regular words p accepted k row r) in
+  -- a row is read back from its key
+  pub keyed-row : (T : Row ℕ → Type 0) (k key : ℕ) → Within T (At modes p (p .ground) k) → Keyed p T key → T (rowOf p key) × (keyOf p (rowOf p key) ≡ key)
+  keyed-row T k key within (row, r, e) =
+      let back : rowOf p key ≡ row = ap (rowOf p) e ∙ row-of-key p few (at-regular words p accepted k row (within row r)) in
       (rw back r, rw back (sym e))
 
   -- a full room is exceeded
@@ -125,7 +125,7 @@ module _ (words : List ℕ) (p : Program) (accepted : faults words ≡ sound p) 
       left = let (row, g, e) = full .left-of in (row, looked-at p k row g, e)
 
       each : (key : ℕ) → List·Memᴰ key (full .left ∷ ks′) → At modes p (p .ground) (suc k) (rowOf p key) × (keyOf p (rowOf p key) ≡ key)
-      each key m = keyed-row (suc k) key (⊎-elim
+      each key m = keyed-row (At modes p (p .ground) (suc k)) (suc k) key (λ _ r. r) (⊎-elim
           (λ (e : key ≡ full .left). rw e left)
           (λ (m′ : List·Memᴰ key ks′). behind-keyed p k kept (full .behind) key m′)
           (List·Memᴰ·cases-cons m))
