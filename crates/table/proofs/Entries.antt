@@ -1,15 +1,16 @@
 -- Entries in their order: one put in its place, one list behind another, keys in order, and their words.
-use Prim.Native.Nat.{ℕ, suc, _+_, _*_, _-_, _≤_, _<_}
+use Prim.Native.Nat.{ℕ, suc, _*_, _-_, _≤_, _<_}
 use native.Mathlib.Omega.{arith}
 use mathlib.Core.Path.{_≡_, refl, sym, ap, _∙_}
-use mathlib.Core.Logic.{_⊎_, inl, inr, ⊎-elim, _↔_}
+use mathlib.Core.Logic.{inl, inr, ⊎-elim}
 use mathlib.Core.List.{List, [], _∷_, _++_, append-assoc, map, List·Memᴰ, List·Memᴰ·head, List·Memᴰ·tail, List·Memᴰ·cases-cons, List·Memᴰ·append-cases, List·Memᴰ·not-nil, Memᴰ·append-left, Memᴰ·append-right}
 use lib.ListN.{length, replicate, length-append, length-replicate}
 use Rattle.program.specs.Program.{Program}
 use Rattle.table.specs.Rules.{Row, call, cont, solution}
 use Rattle.table.specs.Table.{rowWords, Entry, rowSize, entryWords, tableWords, Before, Ascending, roomIn}
 use Rattle.table.specs.Keys.{keyOf, rowOf, Few, Regular}
-use Rattle.table.specs.NewRows.{entryOf}
+use Rattle.table.specs.Added.{Rising}
+use Rattle.table.specs.RoundKeys.{entryOf}
 use Rattle.table.proofs.Lists.{has-map}
 use Rattle.table.proofs.Keys.{entry-before}
 
@@ -51,11 +52,6 @@ pub ascending-insert : (es fs : List Entry) (e : Entry) → Ascending (es ++ fs)
 ascending-insert es fs e a below above =
     ascending-append es (e ∷ fs) (ascending-left es fs a) (above, ascending-right es fs a)
     (λ f g m n. ⊎-elim (λ (d : g ≡ e). rw d (below f m)) (λ (n′ : List·Memᴰ g fs). ascending-across es fs a f g m n′) (List·Memᴰ·cases-cons n))
-
--- numbers in strictly ascending order
-abbrev pub Rising : List ℕ → Type 0
-Rising [] = Unit {0}
-Rising (k ∷ ks) = ((j : ℕ) → List·Memᴰ j ks → k < j) × Rising ks
 
 -- keys of one round in ascending order are its entries in order
 pub keys-ascending : (p : Program) → Few p → (round : ℕ) (ks : List ℕ) → Rising ks

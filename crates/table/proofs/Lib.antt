@@ -9,6 +9,7 @@ pub mod ComputedLaws
 pub mod ModesComputed
 pub mod Samples
 pub mod NoClauses
+pub mod FaultNumbers
 pub mod Promise
 pub mod Keys
 pub mod ShapeVariables
@@ -16,6 +17,7 @@ pub mod Regular
 pub mod Added
 pub mod Steps
 pub mod NewRows
+pub mod Looking
 pub mod RoundKeys
 pub mod Entries
 pub mod RoundEntries

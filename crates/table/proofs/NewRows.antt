@@ -1,6 +1,5 @@
 -- A round needs to look only at combinations with a new row: what the others give is there already.
 use Prim.Native.Nat.{ℕ, zero, suc}
-use mathlib.Core.Path.{_≡_, refl}
 use mathlib.Core.Logic.{_⊎_, inl, inr, ⊎-elim, _↔_}
 use lib.ListN.{length}
 use Rattle.marks.specs.Domain.{Domain}
@@ -8,8 +7,8 @@ use Rattle.program.specs.Program.{Program}
 use Rattle.program.proofs.ShapeLaws.{nth-same}
 use Rattle.table.specs.Rules.{Row, call, cont, solution, Reached, first, next, Gives, calls, conts, solves}
 use Rattle.table.specs.Rounds.{At}
-use Rattle.table.specs.Steps.{Opens, opens, Makes, makes, GoesOn, goes-call, goes-cont, EndsIn, ends-in, OnHead, on-head}
-use Rattle.table.specs.NewRows.{Earlier, New, NewReached, NewOnHead, new-on-head, NewIn, NewGives}
+use Rattle.table.specs.Steps.{opens, makes, GoesOn, goes-call, goes-cont, EndsIn, ends-in, OnHead, on-head}
+use Rattle.table.specs.NewRows.{Earlier, NewReached, NewOnHead, new-on-head, NewGives}
 use Rattle.table.proofs.RuleLaws.{Within, reached-within}
 
 module _ (D : Domain) (p : Program) (T₀ T : Row (D .Mark) → Type 0) where

@@ -1,8 +1,8 @@
 -- The entries of the rounds: those of the goal's call, those that a round adds, and those of the last round, which are the table.
-use Prim.Native.Nat.{ℕ, zero, suc, _≤_, _<_}
+use Prim.Native.Nat.{ℕ, suc, _≤_}
 use native.Mathlib.Omega.{arith}
 use native.Mathlib.Decide.{decLe}
-use mathlib.Core.Path.{_≡_, refl, sym, ap, _∙_, subst}
+use mathlib.Core.Path.{_≡_, refl, sym}
 use mathlib.Core.Logic.{_⊎_, inl, inr, ⊎-elim, _↔_}
 use mathlib.Core.List.{List, [], _∷_, List·Memᴰ, List·Memᴰ·head, List·Memᴰ·eq-of-singleton}
 use Rattle.marks.specs.Modes.{modes}
@@ -13,7 +13,7 @@ use Rattle.table.specs.Rounds.{At, First}
 use Rattle.table.specs.Table.{Entry, Ascending, TableOf}
 use Rattle.table.specs.Keys.{keyOf, rowOf}
 use Rattle.table.specs.Added.{Plus}
-use Rattle.table.specs.NewRows.{entryOf, Rounded, Keyed}
+use Rattle.table.specs.RoundKeys.{Rounded, RoundKeys, Looked, AddedIn}
 use Rattle.table.proofs.RuleLaws.{Within}
 use Rattle.table.proofs.RoundLaws.{stop-last}
 use Rattle.table.proofs.Added.{behind-has}
@@ -21,7 +21,7 @@ use Rattle.program.proofs.ProgramWords.{sound-within}
 use Rattle.table.proofs.ShapeVariables.{within-few}
 use Rattle.table.proofs.Regular.{at-regular}
 use Rattle.table.proofs.Keys.{row-of-key}
-use Rattle.table.proofs.RoundKeys.{RoundKeys, Looked, round-next, new-first-round, keyed-at, keyed-row}
+use Rattle.table.proofs.RoundKeys.{round-next, new-first-round, keyed-at, keyed-row}
 
 module _ (p : Program) where
   -- "Round 0 has one row, the goal's call."
@@ -46,21 +46,17 @@ module _ (p : Program) where
       at j row f (no g) = absurd (f .1 k (omega arith) (stop-last modes p (p .ground) k stop j row (f .0)))
 
 module _ (words : List ℕ) (p : Program) (accepted : faults words ≡ sound p) where
-  -- an entry that a round adds: of one of its new keys
-  abbrev pub AddedIn : ℕ → List ℕ → Entry → Type 0
-  AddedIn k new e = (key : ℕ) × List·Memᴰ key new × (e ≡ entryOf p k key)
-
   pub rounded-next : (k : ℕ) {ks ks′ : List ℕ} {entries entries′ : List Entry} → RoundKeys p k ks → (plus : Plus ks (Looked p k) ks′) → Rounded p k entries
-      → ((e : Entry) → List·Memᴰ e entries′ ↔ (List·Memᴰ e entries ⊎ AddedIn (suc k) (plus .behind .new) e)) → Rounded p (suc k) entries′
+      → ((e : Entry) → List·Memᴰ e entries′ ↔ (List·Memᴰ e entries ⊎ AddedIn p (suc k) (plus .behind .new) e)) → Rounded p (suc k) entries′
   rounded-next k {ks} {ks′} {entries} {entries′} kept plus rounded each e = (λ m. to (each e .0 m), λ (l, f). each e .1 (from l f (decLe (e .round) k)))
     where
-      to : List·Memᴰ e entries ⊎ AddedIn (suc k) (plus .behind .new) e → (e .round ≤ suc k) × First modes p (p .ground) (e .round) (e .row)
+      to : List·Memᴰ e entries ⊎ AddedIn p (suc k) (plus .behind .new) e → (e .round ≤ suc k) × First modes p (p .ground) (e .round) (e .row)
       to (inl m) = let (l, f) = rounded e .0 m in (omega arith, f)
       to (inr (key, m, d)) =
           let f = keyed-row words p accepted (First modes p (p .ground) (suc k)) (suc k) key (λ row f. f .0) (new-first-round p k kept (plus .behind) key m) in
           rw d (omega arith, f .0)
 
-      new : e .round ≡ suc k → First modes p (p .ground) (suc k) (e .row) → List·Memᴰ e entries ⊎ AddedIn (suc k) (plus .behind .new) e
+      new : e .round ≡ suc k → First modes p (p .ground) (suc k) (e .row) → List·Memᴰ e entries ⊎ AddedIn p (suc k) (plus .behind .new) e
       new z f = ⊎-elim
           (λ (m : List·Memᴰ (keyOf p (e .row)) ks). absurd (f .1 k (omega arith) (keyed-at words p accepted (suc k) k (e .row) (f .0) (kept .each (keyOf p (e .row)) .0 m))))
           (λ (m : List·Memᴰ (keyOf p (e .row)) (plus .behind .new)). inr (keyOf p (e .row), m, λ i. record { round = z i; row = back i }))
@@ -69,7 +65,7 @@ module _ (words : List ℕ) (p : Program) (accepted : faults words ≡ sound p) 
           back : e .row ≡ rowOf p (keyOf p (e .row))
           back = sym (row-of-key p (within-few p (sound-within words p accepted)) (at-regular words p accepted (suc k) (e .row) (f .0)))
 
-      from : e .round ≤ suc k → First modes p (p .ground) (e .round) (e .row) → Dec (e .round ≤ k) → List·Memᴰ e entries ⊎ AddedIn (suc k) (plus .behind .new) e
+      from : e .round ≤ suc k → First modes p (p .ground) (e .round) (e .row) → Dec (e .round ≤ k) → List·Memᴰ e entries ⊎ AddedIn p (suc k) (plus .behind .new) e
       from l f (yes h) = inl (rounded e .1 (h, f))
       from l f (no g) =
           let z : e .round ≡ suc k = omega arith in

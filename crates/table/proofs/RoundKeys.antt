@@ -1,39 +1,32 @@
 -- The keys of a round: a round's keys and what it looks at are the next round's, a round that adds nothing is the last, and a full room is exceeded.
-use Prim.Native.Nat.{ℕ, zero, suc, _≤_, _<_}
+use Prim.Native.Nat.{ℕ, suc}
 use native.Mathlib.Omega.{arith}
-use native.Mathlib.Decide.{decLe}
-use mathlib.Core.Path.{_≡_, refl, sym, ap, _∙_, subst}
-use mathlib.Core.Logic.{_⊎_, inl, inr, ⊎-elim, _↔_}
-use mathlib.Core.List.{List, [], _∷_, map, List·Memᴰ, List·Memᴰ·head, List·Memᴰ·tail, List·Memᴰ·cases-cons, List·Memᴰ·not-nil, List·Memᴰ·eq-of-singleton, Memᴰ·cast}
-use lib.ListN.{length, length-map}
+use mathlib.Core.Path.{_≡_, refl, sym, ap, _∙_}
+use mathlib.Core.Logic.{inl, inr, ⊎-elim, _↔_}
+use mathlib.Core.List.{List, [], _∷_, map, List·Memᴰ, List·Memᴰ·head, List·Memᴰ·cases-cons, List·Memᴰ·not-nil, List·Memᴰ·eq-of-singleton}
+use lib.ListN.{length-map}
 use Rattle.marks.specs.Modes.{modes}
 use Rattle.program.specs.Program.{Program}
 use Rattle.program.specs.Faults.{sound, faults}
 use Rattle.program.proofs.ProgramWords.{sound-within}
 use Rattle.table.specs.Rules.{Row, call}
-use Rattle.table.specs.Rounds.{At, First, Least, Appears}
-use Rattle.table.specs.Table.{Entry, Ascending, Distinct, TableOf, MoreThan}
+use Rattle.table.specs.Rounds.{At, First, Least}
+use Rattle.table.specs.Table.{MoreThan}
 use Rattle.table.specs.Keys.{keyOf, rowOf, Few, Regular}
 use Rattle.table.specs.Added.{Behind, Plus, Full}
-use Rattle.table.specs.NewRows.{Earlier, NewGives, Keyed, Kept}
+use Rattle.table.specs.NewRows.{Earlier, NewGives}
+use Rattle.table.specs.RoundKeys.{Keyed, RoundKeys, Looked}
 use Rattle.table.proofs.Lists.{has-map}
 use Rattle.table.proofs.Distinct.{distinct-map}
 use Rattle.table.proofs.RuleLaws.{Within}
-use Rattle.table.proofs.RoundLaws.{rounds-grow, stop-last, least-at}
+use Rattle.table.proofs.RoundLaws.{rounds-grow, least-at}
 use Rattle.table.proofs.ComputedLaws.{at-decided}
 use Rattle.table.proofs.ModesComputed.{modes-lists}
 use Rattle.table.proofs.ShapeVariables.{within-few}
 use Rattle.table.proofs.Regular.{at-regular}
 use Rattle.table.proofs.Keys.{row-of-key, key-injective}
-use Rattle.table.proofs.Added.{behind-keeps, behind-has, behind-distinct, plus-has, plus-distinct, full-distinct}
+use Rattle.table.proofs.Added.{behind-has, plus-has, plus-distinct, full-distinct}
 use Rattle.table.proofs.NewRows.{new-gives, round-split}
-
--- the keys of the rows of round k, and of those that it looks at
-abbrev pub RoundKeys : Program → ℕ → List ℕ → Type 0
-RoundKeys p k ks = Kept p (At modes p (p .ground) k) ks
-
-abbrev pub Looked : Program → ℕ → ℕ → Type 0
-Looked p k = Keyed p (NewGives modes p (Earlier modes p (p .ground) k) (At modes p (p .ground) k))
 
 module _ (p : Program) where
   -- "Round 0 has one row, the goal's call."

@@ -1,7 +1,7 @@
 -- The steps of the rules for the modes: each has one result where its two atoms unify, and none where they are apart.
 use Prim.Native.Nat.{ℕ, suc}
-use mathlib.Core.Path.{_≡_, refl, sym, ap, _∙_, subst}
-use mathlib.Core.Logic.{_⊎_, inl, inr, ⊎-elim, _↔_}
+use mathlib.Core.Path.{_≡_, ap, _∙_}
+use mathlib.Core.Logic.{_⊎_, inl, inr, _↔_}
 use lib.Bits.{bitOr}
 use Rattle.terms.specs.Term.{Term}
 use Rattle.terms.specs.Unifier.{Apart}
@@ -16,7 +16,7 @@ use Rattle.program.proofs.ShapeLaws.{nth-same}
 use Rattle.table.specs.Rules.{Row, call, cont, solution}
 use Rattle.table.specs.Keys.{keyOf}
 use Rattle.table.specs.Steps.{Opens, opens, Makes, makes, GoesOn, goes-call, goes-cont, EndsIn, ends-in}
-use Rattle.table.specs.NewRows.{Keyed}
+use Rattle.table.specs.RoundKeys.{Keyed}
 
 -- nothing passes between atoms that are apart
 pub pass-not-apart : {A B : Term} {M N R : ℕ} → Pass A M B N R → Apart A B → ⊥

@@ -6,3 +6,4 @@ pub mod Keys
 pub mod Added
 pub mod Steps
 pub mod NewRows
+pub mod RoundKeys

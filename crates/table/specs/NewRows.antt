@@ -1,17 +1,12 @@
 -- What the rules give by combinations with a new row: what a round looks at, clause by clause and place by place.
-use Prim.Native.Nat.{ℕ, zero, suc, _≤_}
-use mathlib.Core.Path.{_≡_}
-use mathlib.Core.Logic.{_⊎_, _↔_}
-use mathlib.Core.List.{List, List·Memᴰ}
+use Prim.Native.Nat.{ℕ, zero, suc}
+use mathlib.Core.Logic.{_⊎_}
 use lib.ListN.{length}
 use Rattle.marks.specs.Domain.{Domain}
-use Rattle.marks.specs.Modes.{modes}
 use Rattle.program.specs.Program.{Nth, Clause, Program}
 use Rattle.table.specs.Rules.{Row, call, cont, solution}
-use Rattle.table.specs.Rounds.{At, First}
+use Rattle.table.specs.Rounds.{At}
 use Rattle.table.specs.Steps.{Opens, Makes, GoesOn, EndsIn, OnHead}
-use Rattle.table.specs.Table.{Entry, Distinct}
-use Rattle.table.specs.Keys.{keyOf, rowOf}
 
 module _ (D : Domain) (p : Program) (goal : D .Mark) where
   -- the rows of the round before
@@ -54,20 +49,3 @@ module _ (D : Domain) (p : Program) (T₀ T : Row (D .Mark) → Type 0) where
 
   abbrev pub NewGives : Row (D .Mark) → Type 0
   NewGives row = (k : ℕ) × NewIn k row
-
--- the keys of a set of rows
-abbrev pub Keyed : Program → (Row ℕ → Type 0) → ℕ → Type 0
-Keyed p T key = (row : Row ℕ) × T row × (key ≡ keyOf p row)
-
--- the keys kept are those of the rows, each once
-pub record Kept (p : Program) (T : Row ℕ → Type 0) (ks : List ℕ) : Type 0 where
-  pub distinct : Distinct ks
-  pub each : (key : ℕ) → List·Memᴰ key ks ↔ Keyed p T key
-
--- the entry of a key in a round
-abbrev pub entryOf : Program → ℕ → ℕ → Entry
-entryOf p k key = record { round = k; row = rowOf p key }
-
--- the entries are those of the rows of the rounds up to k, each with its round
-abbrev pub Rounded : Program → ℕ → List Entry → Type 0
-Rounded p k entries = (e : Entry) → List·Memᴰ e entries ↔ ((e .round ≤ k) × First modes p (p .ground) (e .round) (e .row))
