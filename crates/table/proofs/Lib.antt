@@ -21,3 +21,5 @@ pub mod Looking
 pub mod RoundKeys
 pub mod Entries
 pub mod RoundEntries
+pub mod Sorting
+pub mod PromiseMet
