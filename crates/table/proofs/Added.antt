@@ -1,5 +1,5 @@
 -- An algebra of what is added to the keys kept: nothing, one key, one step after another, and a step that finds the room full.
-use Prim.Native.Nat.{ℕ, suc, _+_, _≤_, _<_}
+use Prim.Native.Nat.{ℕ, suc, _+_}
 use native.Mathlib.Omega.{arith}
 use native.Mathlib.Decide.{ℕ-discrete}
 use mathlib.Core.Path.{_≡_, refl, sym, ap, _∙_, subst}
@@ -7,7 +7,7 @@ use mathlib.Core.Logic.{_⊎_, inl, inr, ⊎-elim, _↔_}
 use mathlib.Core.List.{List, [], _∷_, _++_, append-assoc, append-nil, List·Memᴰ, List·Memᴰ·head, List·Memᴰ·append-cases, List·Memᴰ·not-nil, List·Memᴰ·eq-of-singleton, Memᴰ·cast, Memᴰ·append-left, Memᴰ·append-right}
 use lib.ListN.{length, length-append}
 use Rattle.table.specs.Table.{Distinct}
-use Rattle.table.specs.Added.{Behind, Plus, Full}
+use Rattle.table.specs.Added.{Behind, Plus, Full, Below}
 use Rattle.table.proofs.Distinct.{distinct-append}
 
 module _ (ks : List ℕ) (S : ℕ → Type 0) (ks′ : List ℕ) where
@@ -95,9 +95,6 @@ pub plus-for : {ks ks′ : List ℕ} {S S′ : ℕ → Type 0} → ((k : ℕ) �
 plus-for same a = plus-wider (λ k. same k .0) (λ k h. inl (same k .1 h)) a
 
 -- a loop: the sets of the steps before, and the set of the next
-abbrev pub Below : (ℕ → ℕ → Type 0) → ℕ → ℕ → Type 0
-Below S n k = (i : ℕ) × (i < n) × S i k
-
 pub plus-start : (ks : List ℕ) (S : ℕ → ℕ → Type 0) → Plus ks (Below S 0) ks
 plus-start ks S = plus-nothing ks (Below S 0) (λ k (i, l, h). omega arith)
 

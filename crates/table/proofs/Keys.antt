@@ -1,16 +1,14 @@
 -- Rows as numbers: a row is read back from its key, so no two rows have one key, and keys stand in the order of the rows' words.
-use Prim.Native.Nat.{ℕ, zero, suc, _+_, _-_, _*_, _/_, _%_, _<_, _≤_}
+use Prim.Native.Nat.{ℕ, zero, suc, _+_, _-_, _*_, _/_, _%_, _<_}
 use native.Mathlib.Omega.{arith}
 use native.Mathlib.Decide.{ℕ-discrete, decLt}
 use mathlib.Core.Path.{_≡_, refl, sym, ap, subst, _∙_}
 use mathlib.Core.Logic.{_⊎_, inl, inr, _↔_}
-use mathlib.Core.List.{List, [], _∷_, _++_}
+use mathlib.Core.List.{List, [], _∷_}
 use lib.ListN.{length, take, length-append}
-use lib.Dec.{ltb}
 use borrow.Author.Tests.{lt-ltb, le-ltb}
 use Rattle.terms.specs.Term.{Term}
 use Rattle.program.specs.Program.{Nth, here, there, Clause, Program, bodies}
-use Rattle.program.specs.Shapes.{shapes}
 use Rattle.table.specs.Rules.{Row, call, cont, solution}
 use Rattle.table.specs.Table.{rowWords, mask, Entry, entryWords, Before}
 use Rattle.table.specs.Keys.{firstCont, firstSolution, masks, bodyIndex, slotOf, keyOf, clauseAt, placeAt, rowAt, rowOf, Few, Regular, regular-call, regular-cont, regular-solution, Slot, slot-call, slot-cont, slot-solution}

@@ -9,9 +9,17 @@ pub mod ComputedLaws
 pub mod ModesComputed
 pub mod Samples
 pub mod NoClauses
+pub mod FaultNumbers
 pub mod Promise
 pub mod Keys
 pub mod ShapeVariables
 pub mod Regular
 pub mod Added
+pub mod Steps
 pub mod NewRows
+pub mod Looking
+pub mod RoundKeys
+pub mod Entries
+pub mod RoundEntries
+pub mod Sorting
+pub mod PromiseMet

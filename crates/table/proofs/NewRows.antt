@@ -1,35 +1,36 @@
 -- A round needs to look only at combinations with a new row: what the others give is there already.
 use Prim.Native.Nat.{ℕ, zero, suc}
-use mathlib.Core.Path.{_≡_, refl}
 use mathlib.Core.Logic.{_⊎_, inl, inr, ⊎-elim, _↔_}
 use lib.ListN.{length}
 use Rattle.marks.specs.Domain.{Domain}
 use Rattle.program.specs.Program.{Program}
+use Rattle.program.proofs.ShapeLaws.{nth-same}
 use Rattle.table.specs.Rules.{Row, call, cont, solution, Reached, first, next, Gives, calls, conts, solves}
 use Rattle.table.specs.Rounds.{At}
-use Rattle.table.specs.NewRows.{Earlier, New, NewReached, new-first, new-next, NewGoes, new-calls, new-conts, NewEnds, new-solves, LateCalls, late-solves, NewIn, NewGives}
+use Rattle.table.specs.Steps.{opens, makes, GoesOn, goes-call, goes-cont, EndsIn, ends-in, OnHead, on-head}
+use Rattle.table.specs.NewRows.{Earlier, NewReached, NewOnHead, new-on-head, NewGives}
 use Rattle.table.proofs.RuleLaws.{Within, reached-within}
 
 module _ (D : Domain) (p : Program) (T₀ T : Row (D .Mark) → Type 0) where
   -- what is looked at is what the rules give
-  pub new-reached : {k i : ℕ} {N : D .Mark} → NewReached D p T₀ T k i N → Reached D p T k i N
-  new-reached (new-first hc hs new passed) = first hc hs (new .0) passed
-  new-reached (new-next hc hA hs row row′ new passed joined) = next hc hA hs row row′ passed joined
+  pub new-reached : (k i : ℕ) (N : D .Mark) → NewReached D p T₀ T k i N → Reached D p T k i N
+  new-reached k zero N (s, M, new, opens hc hs passed) = first hc hs (new .0) passed
+  new-reached k (suc i) N (M, s, L, row, row′, new, makes hc hA hs passed joined) = next hc hA hs row row′ passed joined
 
-  pub new-goes-gives : {k i : ℕ} {row : Row (D .Mark)} → NewGoes D p T₀ T k i row → Gives D p T row
-  new-goes-gives (new-calls reached hc hA numbered) = calls (new-reached reached) hc hA numbered
-  new-goes-gives (new-conts reached hc hA kept) = conts (new-reached reached) hc hA kept
+  goes-gives : {k i : ℕ} {N : D .Mark} {row : Row (D .Mark)} → Reached D p T k i N → GoesOn D p k i N row → Gives D p T row
+  goes-gives reached (goes-call hc hA numbered) = calls reached hc hA numbered
+  goes-gives reached (goes-cont hc hA kept) = conts reached hc hA kept
 
-  pub new-ends-gives : {k : ℕ} {row : Row (D .Mark)} → NewEnds D p T₀ T k row → Gives D p T row
-  new-ends-gives (new-solves hc reached hs row passed) = solves hc (new-reached reached) hs row passed
+  ends-gives : {k s : ℕ} {N C : D .Mark} {row : Row (D .Mark)} → OnHead D p T k N → T (call s C) → EndsIn D p k N s C row → Gives D p T row
+  ends-gives (on-head hc reached) called (ends-in hc′ hs passed) = solves hc reached hs called (rw (nth-same hc′ hc) at passed)
 
-  pub late-calls-gives : {k : ℕ} {row : Row (D .Mark)} → LateCalls D p T₀ T k row → Gives D p T row
-  late-calls-gives (late-solves hc reached hs new passed) = solves hc reached hs (new .0) passed
+  new-on-head-all : {k : ℕ} {N : D .Mark} → NewOnHead D p T₀ T k N → OnHead D p T k N
+  new-on-head-all {k} {N} (new-on-head {c} hc reached) = on-head hc (new-reached k (length (c .body)) N reached)
 
   pub new-gives : (row : Row (D .Mark)) → NewGives D p T₀ T row → Gives D p T row
-  new-gives row (k, inl (i, h)) = new-goes-gives h
-  new-gives row (k, inr (inl h)) = new-ends-gives h
-  new-gives row (k, inr (inr h)) = late-calls-gives h
+  new-gives row (k, inl (i, (N, reached, goes))) = goes-gives (new-reached k i N reached) goes
+  new-gives row (k, inr (inl (N, head, s, C, called, ends))) = ends-gives (new-on-head-all head) called ends
+  new-gives row (k, inr (inr (N, head, s, C, called, ends))) = ends-gives head (called .0) ends
 
   module _ (decide : (row : Row (D .Mark)) → Dec (T₀ row)) where
     -- marks result from rows of the round before alone, or from a new row
@@ -38,31 +39,42 @@ module _ (D : Domain) (p : Program) (T₀ T : Row (D .Mark) → Type 0) where
       where
         at : Dec (T₀ (call s M)) → Reached D p T₀ k 0 N ⊎ NewReached D p T₀ T k 0 N
         at (yes old) = inl (first hc hs old passed)
-        at (no new) = inr (new-first hc hs (row, new) passed)
+        at (no new) = inr (s, M, (row, new), opens hc hs passed)
     reached-old-or-new {N = N} (next {k = k} {i = i} {s = s} {M = M} {L = L} hc hA hs row row′ passed joined) = at (decide (cont (suc k) (suc i) M)) (decide (solution s L))
       where
         at : Dec (T₀ (cont (suc k) (suc i) M)) → Dec (T₀ (solution s L)) → Reached D p T₀ k (suc i) N ⊎ NewReached D p T₀ T k (suc i) N
         at (yes old) (yes old′) = inl (next hc hA hs old old′ passed joined)
-        at (yes old) (no new) = inr (new-next hc hA hs row row′ (inr new) passed joined)
-        at (no new) _ = inr (new-next hc hA hs row row′ (inl new) passed joined)
+        at (yes old) (no new) = inr (M, s, L, row, row′, inr new, makes hc hA hs passed joined)
+        at (no new) _ = inr (M, s, L, row, row′, inl new, makes hc hA hs passed joined)
 
     -- so the marks that result are those of the round before and those of new rows
     pub reached-split : Within T₀ T → (k i : ℕ) (N : D .Mark) → Reached D p T k i N ↔ (Reached D p T₀ k i N ⊎ NewReached D p T₀ T k i N)
-    reached-split w k i N = (λ r. reached-old-or-new r, ⊎-elim (λ r. reached-within D p T₀ T w r) (λ r. new-reached r))
+    reached-split w k i N = (λ r. reached-old-or-new r, ⊎-elim (λ r. reached-within D p T₀ T w r) (new-reached k i N))
+
+    -- and so it is on the heads
+    pub on-head-split : Within T₀ T → (k : ℕ) (N : D .Mark) → OnHead D p T k N ↔ (OnHead D p T₀ k N ⊎ NewOnHead D p T₀ T k N)
+    on-head-split w k N = (to, from)
+      where
+        to : OnHead D p T k N → OnHead D p T₀ k N ⊎ NewOnHead D p T₀ T k N
+        to (on-head hc reached) = ⊎-elim (λ r. inl (on-head hc r)) (λ r. inr (new-on-head hc r)) (reached-old-or-new reached)
+
+        from : OnHead D p T₀ k N ⊎ NewOnHead D p T₀ T k N → OnHead D p T k N
+        from (inl (on-head hc reached)) = on-head hc (reached-within D p T₀ T w reached)
+        from (inr head) = new-on-head-all head
 
     -- every row that the rules give is given by rows of the round before alone, or is looked at
     pub gives-old-or-new : (row : Row (D .Mark)) → Gives D p T row → Gives D p T₀ row ⊎ NewGives D p T₀ T row
-    gives-old-or-new _ (calls {k} {i} reached hc hA numbered) =
-        ⊎-elim (λ r. inl (calls r hc hA numbered)) (λ r. inr (k, inl (i, new-calls r hc hA numbered))) (reached-old-or-new reached)
-    gives-old-or-new _ (conts {k} {i} reached hc hA kept) =
-        ⊎-elim (λ r. inl (conts r hc hA kept)) (λ r. inr (k, inl (i, new-conts r hc hA kept))) (reached-old-or-new reached)
+    gives-old-or-new _ (calls {k} {i} {N = N} reached hc hA numbered) =
+        ⊎-elim (λ r. inl (calls r hc hA numbered)) (λ r. inr (k, inl (i, (N, r, goes-call hc hA numbered)))) (reached-old-or-new reached)
+    gives-old-or-new _ (conts {k} {i} {N = N} reached hc hA kept) =
+        ⊎-elim (λ r. inl (conts r hc hA kept)) (λ r. inr (k, inl (i, (N, r, goes-cont hc hA kept)))) (reached-old-or-new reached)
     gives-old-or-new _ (solves {k} {s} {c} {N = N} {C = C} {R = R} hc reached hs row passed) = at (decide (call s C)) (reached-old-or-new reached)
       where
         at : Dec (T₀ (call s C)) → Reached D p T₀ k (length (c .body)) N ⊎ NewReached D p T₀ T k (length (c .body)) N
             → Gives D p T₀ (solution s R) ⊎ NewGives D p T₀ T (solution s R)
-        at (no new) _ = inr (k, inr (inr (late-solves hc reached hs (row, new) passed)))
+        at (no new) _ = inr (k, inr (inr (N, on-head hc reached, s, C, (row, new), ends-in hc hs passed)))
         at (yes old) (inl r) = inl (solves hc r hs old passed)
-        at (yes old) (inr r) = inr (k, inr (inl (new-solves hc r hs row passed)))
+        at (yes old) (inr r) = inr (k, inr (inl (N, new-on-head hc r, s, C, row, ends-in hc hs passed)))
 
 -- no rows give nothing
 pub reached-nothing : (D : Domain) (p : Program) {k i : ℕ} {N : D .Mark} → Reached D p (λ _. ⊥) k i N → ⊥

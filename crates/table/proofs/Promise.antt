@@ -1,14 +1,14 @@
 -- The promise of the analysis: no second reply and no second table meet it, and what an accepted table says of the least set.
-use Prim.Native.Nat.{ℕ, suc, _≤_, _<_}
+use Prim.Native.Nat.{ℕ, _≤_, _<_}
 use native.Mathlib.Omega.{arith}
-use mathlib.Core.Path.{_≡_, refl, sym, ap, _∙_, subst}
-use mathlib.Core.Logic.{_⊎_, inl, inr, ⊎-elim, _↔_}
-use mathlib.Core.List.{List, [], _∷_, map, List·Memᴰ, List·Memᴰ·head, List·Memᴰ·tail, List·Memᴰ·cases-cons, List·Memᴰ·not-nil, Memᴰ·cast}
-use lib.ListN.{length, length-map}
+use mathlib.Core.Path.{_≡_, refl, sym, ap, _∙_}
+use mathlib.Core.Logic.{_⊎_, inl, inr, _↔_}
+use mathlib.Core.List.{List, [], _∷_, map, List·Memᴰ, List·Memᴰ·head, List·Memᴰ·tail, List·Memᴰ·cases-cons, List·Memᴰ·not-nil}
+use lib.ListN.{length, replicate, length-map}
 use Rattle.terms.proofs.Masks.{mark-never-neither}
 use Rattle.marks.specs.Modes.{modes}
 use Rattle.program.specs.Program.{Program}
-use Rattle.program.specs.Reply.{noRoom}
+use Rattle.program.specs.Reply.{accepted, noRoom, neither as badMark, done}
 use Rattle.program.specs.Faults.{Found, fault, sound, faults}
 use Rattle.program.specs.declared.reply.Reply.{Reply}
 use Rattle.program.proofs.ShapeLaws.{map-has}
@@ -17,6 +17,7 @@ use Rattle.table.specs.Rounds.{First, Least, Appears}
 use Rattle.table.specs.Table.{Entry, entryWords, Before, Ascending, Distinct, roomIn, TableOf, MoreThan, ComesOutNeither, Promise, faulty, listed, full, unmarked}
 use Rattle.table.proofs.Lists.{has-map}
 use Rattle.table.proofs.Distinct.{distinct-length, distinct-map}
+use Rattle.table.proofs.FaultNumbers.{fault-number}
 use Rattle.table.proofs.RoundLaws.{first-once, first-round, least-appears}
 use Rattle.table.proofs.RoundCount.{round-below-count}
 use Rattle.table.proofs.ComputedLaws.{at-decided}
@@ -153,3 +154,25 @@ no-room-more words size r t p s (listed p′ es f h l e z) =
     (λ d. absurd (let b : _≡_ {A = ℕ} 0 noRoom = rw e at d in omega arith), λ m. absurd (room-or-not p′ es h (roomIn size) l (rw (sound-same _ s f) at m)))
 no-room-more words size r t p s (full p′ f h e z) = (λ d. rw (sound-same _ s f) h, λ m. ap (λ (x : Reply). x .number) e)
 no-room-more words size r t p s (unmarked p′ f h e z) = absurd (neither-never p′ h)
+
+-- number 0 is a table of exactly the least set
+pub accepted-listed : (words : List ℕ) (size : ℕ) (r : Reply) (t : List ℕ) → Promise words size r t → r .number ≡ accepted
+    → (p : Program) × (entries : List Entry) × (faults words ≡ sound p) × TableOf p entries × (r ≡ done (length entries))
+accepted-listed words size r t (faulty n q f e z) d = absurd (let b : n ≡ accepted = rw e at d in omega (arith, fault-number words n q f))
+accepted-listed words size r t (listed p entries f h l e z) d = (p, entries, f, h, e)
+accepted-listed words size r t (full p f h e z) d = absurd (let b : noRoom ≡ accepted = rw e at d in omega arith)
+accepted-listed words size r t (unmarked p f h e z) d = absurd (neither-never p h)
+
+-- "Every refusal zeroes all lent output", and counts nothing
+pub refused-zeros : (words : List ℕ) (size : ℕ) (r : Reply) (t : List ℕ) → Promise words size r t → (r .number ≡ accepted → ⊥) → (t ≡ replicate size 0) × (r .count ≡ 0)
+refused-zeros words size r t (faulty n q f e z) d = (z, ap (λ (x : Reply). x .count) e)
+refused-zeros words size r t (listed p entries f h l e z) d = absurd (d (ap (λ (x : Reply). x .number) e))
+refused-zeros words size r t (full p f h e z) d = (z, ap (λ (x : Reply). x .count) e)
+refused-zeros words size r t (unmarked p f h e z) d = (z, ap (λ (x : Reply). x .count) e)
+
+-- number 10 never comes
+pub ten-never : (words : List ℕ) (size : ℕ) (r : Reply) (t : List ℕ) → Promise words size r t → r .number ≡ badMark → ⊥
+ten-never words size r t (faulty n q f e z) d = let b : n ≡ badMark = rw e at d in omega (arith, fault-number words n q f)
+ten-never words size r t (listed p entries f h l e z) d = let b : accepted ≡ badMark = rw e at d in omega arith
+ten-never words size r t (full p f h e z) d = let b : noRoom ≡ badMark = rw e at d in omega arith
+ten-never words size r t (unmarked p f h e z) d = neither-never p h

@@ -1,8 +1,8 @@
 -- Every row of an accepted program is regular: its shape, or its clause and place, exist, and its mask is of the shape's or the list's variables.
-use Prim.Native.Nat.{ℕ, zero, suc, _^_, _≤_, _<_}
+use Prim.Native.Nat.{ℕ, suc, _≤_, _<_}
 use native.Mathlib.Omega.{arith}
 use native.Mathlib.Decide.{decLt}
-use mathlib.Core.Path.{_≡_, refl, sym, subst}
+use mathlib.Core.Path.{_≡_, sym, subst}
 use mathlib.Core.Logic.{_⊎_, inl, inr, ⊎-elim}
 use mathlib.Core.List.{List}
 use borrow.Author.Tests.{lt-ltb, le-ltb}
@@ -14,14 +14,14 @@ use Rattle.terms.proofs.Substs.{sub-occ}
 use Rattle.marks.specs.Modes.{modes}
 use Rattle.marks.proofs.Passing.{pass-within}
 use Rattle.program.specs.Program.{Nth, Clause, Program}
-use Rattle.program.specs.Shapes.{number, shapeOf, shapes, Listed}
+use Rattle.program.specs.Shapes.{number, shapeOf, Listed}
 use Rattle.program.specs.Atoms.{meet}
 use Rattle.program.specs.Within.{after, afters, Numbered, Numbereds, WithinLimits}
 use Rattle.program.specs.Faults.{sound, faults}
 use Rattle.program.proofs.ShapeLaws.{nth-member, nth-same, body-shape, goal-shape}
 use Rattle.program.proofs.GoalShape.{goal-own-shape}
 use Rattle.program.proofs.ProgramWords.{sound-within}
-use Rattle.table.specs.Rules.{Row, call, Gives, calls, conts, solves}
+use Rattle.table.specs.Rules.{Row, call, calls, conts, solves}
 use Rattle.table.specs.Rounds.{At, Closed}
 use Rattle.table.specs.Keys.{masks, Regular, regular-call, regular-cont, regular-solution}
 use Rattle.table.proofs.RoundLaws.{at-within}

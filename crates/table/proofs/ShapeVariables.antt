@@ -1,12 +1,12 @@
 -- The variables of a program within the limits: those of its atoms, clauses and shapes are at most 15, and its shapes and body atoms are few.
-use Prim.Native.Nat.{ℕ, zero, suc, _+_, _*_, _/_, _%_, _^_, _≤_, _<_}
+use Prim.Native.Nat.{ℕ, zero, suc, _+_, _*_, _/_, _^_, _≤_, _<_}
 use native.Mathlib.Omega.{arith}
 use native.Mathlib.Nat.{pow-succ'}
-use native.Mathlib.Decide.{ℕ-discrete, decLt}
-use mathlib.Core.Path.{_≡_, refl, sym, ap, _∙_}
+use native.Mathlib.Decide.{ℕ-discrete}
+use mathlib.Core.Path.{_≡_, sym}
 use mathlib.Core.Logic.{_⊎_, inl, inr, ⊎-elim}
-use mathlib.Core.List.{List, [], _∷_, _++_, map, List·Memᴰ, List·Memᴰ·head, List·Memᴰ·tail, List·Memᴰ·cases-cons, List·Memᴰ·append-cases, List·Memᴰ·not-nil, Memᴰ·cast}
-use lib.ListN.{length, take, drop, length-append, length-map}
+use mathlib.Core.List.{List, [], _∷_, map, List·Memᴰ, List·Memᴰ·head, List·Memᴰ·tail, List·Memᴰ·cases-cons, List·Memᴰ·append-cases, List·Memᴰ·not-nil}
+use lib.ListN.{length, take, length-append, length-map}
 use Rattle.terms.specs.Term.{Term, Terms, sameTerm, var, app, nil, cons, Occ, Occs}
 use Rattle.terms.specs.Cells.{variables, Keeps, Keepss, Atom}
 use Rattle.terms.specs.Mask.{Has}
@@ -15,7 +15,7 @@ use Rattle.terms.proofs.Substs.{occ-sub}
 use Rattle.program.specs.Limits.{maxBody}
 use Rattle.program.specs.Program.{Nth, Clause, Program, bodies}
 use Rattle.program.specs.Shapes.{with, met, mets, number, shapeOf, distinct, shapes, In}
-use Rattle.program.specs.Within.{Each, none, more, WithinClause, WithinLimits}
+use Rattle.program.specs.Within.{Each, more, WithinClause, WithinLimits}
 use Rattle.program.proofs.ShapeLaws.{nth-member, place-nth, met-has}
 use Rattle.program.proofs.OwnShape.{upTo, length-upTo, upTo-has}
 use Rattle.table.specs.Table.{Distinct}

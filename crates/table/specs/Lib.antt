@@ -4,4 +4,6 @@ pub mod Rounds
 pub mod Table
 pub mod Keys
 pub mod Added
+pub mod Steps
 pub mod NewRows
+pub mod RoundKeys

@@ -1,5 +1,5 @@
 -- The mode rules, over a domain of marks: what one application of a rule gives from a set of rows.
-use Prim.Native.Nat.{ℕ, zero, suc}
+use Prim.Native.Nat.{ℕ, suc}
 use lib.ListN.{length}
 use Rattle.terms.specs.Term.{Term}
 use Rattle.marks.specs.Domain.{Domain}
