@@ -203,4 +203,6 @@ module _ (P F a b : List ℕ) (A B : Term) (ea : a ≡ enc A) (eb : b ≡ enc B)
                 first = λ v h z. j .kept .sets-right v z (omega arith);
                 second = λ v h z. j .kept .sets-right (16 + v) z (omega arith);
               };
+          all-places = j .kept .all-places;
+          whole = j .kept .whole;
         }
