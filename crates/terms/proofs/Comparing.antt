@@ -36,8 +36,8 @@ Means F a b places p (Function f) =
     (firstTerm (termsAt F a b p) ≡ app f (takeTerms (getD F f 0) (termsAt F a b (p + 1)))) × (f < length F)
     × Run F (cellsAt a b (p + 1)) (getD F f 0) × (p + 1 < noPlace)
 
--- past the end it does not matter what is said of the end
-same-inside : (l : List ℕ) (i d e : ℕ) → i < length l → getD l i d ≡ getD l i e
+-- inside a list it does not matter what is said of its end
+pub same-inside : (l : List ℕ) (i d e : ℕ) → i < length l → getD l i d ≡ getD l i e
 same-inside [] i d e h = absurd (omega arith)
 same-inside (x ∷ l) zero d e h = refl
 same-inside (x ∷ l) (suc i) d e h = same-inside l i d e (omega arith)
