@@ -6,7 +6,7 @@ use mathlib.Core.Bool.{Bool}
 use lib.ListN.{length, getD}
 use Rattle.terms.specs.Term.{Term, Subst, var, Occ}
 use Rattle.terms.specs.Cells.{variables, pick, enc, Atom, Run}
-use Rattle.terms.specs.Mask.{Has, Marks}
+use Rattle.terms.specs.Mask.{Marks}
 use Rattle.terms.specs.Unifier.{Apart, MostGeneral}
 use Rattle.terms.specs.Store.{noPlace, cellsAt, bound, Stands}
 
