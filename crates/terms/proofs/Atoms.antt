@@ -1,25 +1,21 @@
 -- Two whole atoms: the store before the first pair, and what the comparison of their arguments says of the atoms.
-use Prim.Native.Nat.{ℕ, zero, suc, _+_, _-_, _^_, _≤_, _<_}
-use mathlib.Core.Path.{_≡_, refl, sym, ap, ap₂, subst, _∙_, fun-ext}
+use Prim.Native.Nat.{ℕ, zero, suc, _+_, _^_, _≤_, _<_}
+use mathlib.Core.Path.{_≡_, refl, sym, ap, ap₂, _∙_, fun-ext}
 use mathlib.Core.Logic.{_↔_}
 use mathlib.Core.Bool.{Bool, true, false}
-use mathlib.Core.Option.{none}
-use mathlib.Core.List.{List, [], _∷_, _++_, append-nil}
+use mathlib.Core.List.{List, [], _∷_, append-nil}
 use native.Mathlib.Nat.{add-zero, zero-add}
-use native.Mathlib.Numerals.{add-one}
 use native.Mathlib.Decide.{decLt}
 use native.Mathlib.Omega.{arith}
-use lib.ListN.{length, getD, drop, replicate, getD-replicate, length-replicate, List·getD-eq-default}
-use Rattle.terms.specs.Term.{Term, Terms, var, app, nil, cons, Subst, sub, subs, comp, Occ, Occs, All}
-use Rattle.terms.specs.Cells.{enc, encs, Keepss, Atom, atomCells, variables, pick, takeTerms, Run}
-use Rattle.terms.specs.Mask.{Has}
-use Rattle.terms.specs.Unifier.{Apart, MostGeneral}
-use Rattle.terms.specs.Store.{noPlace, secondAtom, second, cellsAt, termsAt, bound, Stands, unbound}
-use Rattle.terms.specs.Unified.{Sets, Unified, Unification, BothAtoms}
-use Rattle.terms.specs.Unifying.{Full, most, free, Kept, Solves, Comparable, Compared}
-use Rattle.terms.proofs.Substs.{sub-comp, sub-agree, sub-var, subs-var, occs-all}
+use lib.ListN.{length, getD, drop, replicate, getD-replicate, List·getD-eq-default}
+use Rattle.terms.specs.Term.{Term, Terms, var, app, Subst, sub, subs, All}
+use Rattle.terms.specs.Cells.{enc, encs, Atom, atomCells, pick, takeTerms, Run}
+use Rattle.terms.specs.Unifier.{Apart}
+use Rattle.terms.specs.Store.{noPlace, second, cellsAt, termsAt, bound, unbound}
+use Rattle.terms.specs.Unified.{Unified}
+use Rattle.terms.specs.Unifying.{most, Kept, Solves, Comparable, Compared}
+use Rattle.terms.proofs.Substs.{sub-agree, sub-var, occs-all}
 use Rattle.terms.proofs.Masks.{has-one}
-use Rattle.terms.proofs.Solutions.{Solution}
 use Rattle.terms.proofs.Pairs.{solution-most-general, unsolved-apart, itself-distinct, shifted-distinct, itself-shifted-disjoint}
 use Rattle.terms.proofs.Standing.{stands-unbound, unbound-itself}
 use Rattle.terms.proofs.Standings.{terms-at-run, same-numbers-all}
@@ -203,4 +199,6 @@ module _ (P F a b : List ℕ) (A B : Term) (ea : a ≡ enc A) (eb : b ≡ enc B)
                 first = λ v h z. j .kept .sets-right v z (omega arith);
                 second = λ v h z. j .kept .sets-right (16 + v) z (omega arith);
               };
+          all-places = j .kept .all-places;
+          whole = j .kept .whole;
         }

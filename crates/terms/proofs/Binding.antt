@@ -1,29 +1,23 @@
 -- Binding an unbound variable to the term at a place: the occurs check on the sets, the sets after it, and the store that it leaves.
-use Prim.Native.Nat.{ℕ, zero, suc, _+_, _-_, _*_, _≤_, _<_}
-use mathlib.Core.Path.{_≡_, refl, sym, ap, ap₂, subst, _∙_}
+use Prim.Native.Nat.{ℕ, zero, suc, _+_, _-_, _≤_, _<_}
+use mathlib.Core.Path.{_≡_, refl, sym, ap, _∙_}
 use mathlib.Core.Logic.{_⊎_, inl, inr, _↔_, ⊎-elim}
-use mathlib.Core.Bool.{true, false}
-use mathlib.Core.Option.{Option, none, some, Option·none-ne-some}
+use mathlib.Core.Option.{none, some, Option·none-ne-some}
 use mathlib.Core.List.{List, [], _∷_, _++_}
-use native.Mathlib.Nat.{le-trans, mul-le-mul, mul-le-mul-left}
 use native.Mathlib.Decide.{ℕ-discrete, decLt}
 use native.Mathlib.Omega.{arith}
-use lib.Dec.{ltb}
-use lib.ListN.{length, getD, set, length-set, length-append, List·getD-append}
+use lib.ListN.{length, getD, set, length-append, List·getD-append}
 use lib.Seq.{getD-set-same, getD-set-other, getD-append-add}
 use borrow.Author.Tests.{lt-ltb, le-ltb}
-use Rattle.terms.specs.Term.{Term, Terms, var, app, nil, cons, Subst, sub, subs, Occ, Occs}
-use Rattle.terms.specs.Cells.{enc, encs, Keeps, Keepss, firstVariable, variables, atomCells, pick, takeTerms, Run}
+use Rattle.terms.specs.Term.{Term, Terms, var, app, nil, cons, Subst, sub, Occ, Occs}
+use Rattle.terms.specs.Cells.{enc, encs, Keeps, Keepss, variables}
 use Rattle.terms.specs.Mask.{Has}
-use Rattle.terms.specs.Walk.{InRun, Cells, InSets, cellsOf}
-use Rattle.terms.specs.Store.{noPlace, cellsAt, termsAt, firstTerm, bound, Stands}
-use Rattle.terms.specs.Unifying.{Full, steps, free, most, Kept, Solves, Joined, Parted, Outcome, Followed, Replaced, AllReplaced}
+use Rattle.terms.specs.Walk.{InRun, Cells}
+use Rattle.terms.specs.Store.{noPlace, termsAt, firstTerm, bound}
+use Rattle.terms.specs.Unifying.{free}
 use Rattle.terms.proofs.Substs.{sub-comp, occ-sub, sub-occ}
-use Rattle.terms.proofs.Solutions.{bind, bind-same, bind-other, occurs-check}
-use Rattle.terms.proofs.Standing.{stands-sub, unbound-itself, full-more}
-use Rattle.terms.proofs.Stores.{solves-sub, extended, extended-solves}
+use Rattle.terms.proofs.Solutions.{bind, bind-same, bind-other}
 use Rattle.terms.proofs.Walks.{Union}
-use Rattle.terms.proofs.Standings.{base-small, Next, next-term}
 
 in-append : (v : ℕ) (l m : List ℕ) → InRun v (l ++ m) ↔ (InRun v l ⊎ InRun v m)
 in-append v [] m = (inr, ⊎-elim absurd (λ o. o))

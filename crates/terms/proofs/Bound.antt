@@ -1,22 +1,20 @@
 -- The store after an unbound variable is bound, and the outcome of binding: apart where the occurs check finds the variable.
-use Prim.Native.Nat.{ℕ, zero, suc, _+_, _-_, _*_, _≤_, _<_}
-use mathlib.Core.Path.{_≡_, refl, sym, ap, ap₂, subst, _∙_}
-use mathlib.Core.Logic.{_⊎_, inl, inr, _↔_, ⊎-elim}
-use mathlib.Core.Bool.{Bool, true, false}
-use mathlib.Core.Option.{Option, none, some}
+use Prim.Native.Nat.{ℕ, suc, _+_, _-_, _*_, _≤_, _<_}
+use mathlib.Core.Path.{_≡_, refl, sym, ap, ap₂, _∙_}
+use mathlib.Core.Logic.{inl, inr, _↔_, ⊎-elim}
+use mathlib.Core.Option.{Option, none}
 use mathlib.Core.List.{List}
 use native.Mathlib.Nat.{le-trans, mul-le-mul-left, mul-le-mul-right}
 use native.Mathlib.Decide.{ℕ-discrete, decLt}
 use native.Mathlib.Omega.{arith}
-use lib.ListN.{length, getD, set, drop, length-set, length-append, length-drop}
+use lib.ListN.{length, getD, set, length-set, length-append, length-drop}
 use lib.Seq.{getD-set-same, getD-set-other}
 use Rattle.terms.specs.Term.{Term, Terms, var, app, nil, cons, Subst, sub, subs, Occ, Occs}
-use Rattle.terms.specs.Cells.{enc, encs, Keeps, variables, atomCells, pick, Run}
+use Rattle.terms.specs.Cells.{enc, encs, atomCells, Run}
 use Rattle.terms.specs.Mask.{Has}
 use Rattle.terms.specs.Store.{noPlace, cellsAt, termsAt, firstTerm, bound, Stands}
-use Rattle.terms.specs.Walk.{cellsOf}
-use Rattle.terms.specs.Unifying.{baseOf, Full, steps, free, most, Kept, Solves, Joined, Parted, Outcome, Followed, AllReplaced}
-use Rattle.terms.proofs.Solutions.{bind, occurs-check}
+use Rattle.terms.specs.Unifying.{baseOf, Full, steps, free, most, Kept, Joined, Parted, Followed, AllReplaced}
+use Rattle.terms.proofs.Solutions.{occurs-check}
 use Rattle.terms.proofs.Standing.{stands-sub, unbound-itself, full-more}
 use Rattle.terms.proofs.Stores.{solves-sub, extended, extended-solves}
 use Rattle.terms.proofs.Walks.{Union}

@@ -1,30 +1,25 @@
 -- Comparing the terms at two places: what is found there, and what each way of going on needs and gives.
-use Prim.Native.Nat.{ℕ, zero, suc, _+_, _-_, _*_, _≤_, _<_}
-use mathlib.Core.Path.{_≡_, refl, sym, ap, ap₂, subst, _∙_}
-use mathlib.Core.Logic.{_⊎_, inl, inr, _↔_}
-use mathlib.Core.Bool.{Bool, true, false}
-use mathlib.Core.Option.{Option, none, some}
+use Prim.Native.Nat.{ℕ, zero, suc, _+_, _-_, _≤_, _<_}
+use mathlib.Core.Path.{_≡_, refl, sym, subst, _∙_}
+use mathlib.Core.Option.{none, some}
 use mathlib.Core.List.{List, [], _∷_}
 use native.Mathlib.Nat.{le-trans}
 use native.Mathlib.Decide.{decLt}
 use native.Mathlib.Omega.{arith}
-use lib.ListN.{length, getD, drop, length-drop, length-append}
+use lib.ListN.{length, getD, drop, length-drop}
 use lib.Dec.{ltb}
 use borrow.Author.Tests.{lt-ltb, le-ltb}
-use Rattle.terms.specs.Term.{Term, Terms, var, app, nil, cons, Subst, sub, subs}
-use Rattle.terms.specs.Cells.{enc, encs, firstVariable, atomCells, pick, takeTerms, Run}
+use Rattle.terms.specs.Term.{var, app, Subst}
+use Rattle.terms.specs.Cells.{firstVariable, atomCells, pick, takeTerms, Run}
 use Rattle.terms.specs.Walk.{cellsOf}
 use Rattle.terms.specs.Store.{secondAtom, noPlace, cellsAt, termsAt, variableAt, firstTerm, bound}
-use Rattle.terms.specs.Unifying.{lookAt, Kept, Solves, Outcome, Followed, Bindable, Comparable, Compared, free}
+use Rattle.terms.specs.Unifying.{lookAt, Kept}
 use Rattle.terms.specs.declared.unifier.Look.{Look}
 use Rattle.terms.specs.declared.unifier.Look.the-variants.{Unbound, Bound, Function}
 use Rattle.terms.proofs.Places.{cells-first, cells-second, place-within}
 use Rattle.terms.proofs.Steps.{run-cell, run-within}
-use Rattle.terms.proofs.Standings.{Seen, a-variable, a-function, seen, Next, next-term, terms-at-run, kept-apart}
+use Rattle.terms.proofs.Standings.{Seen, a-variable, a-function, seen}
 use Rattle.terms.proofs.Binding.{place-unbound}
-use Rattle.terms.proofs.Bound.{renumbered-cells, renumbered-cells-all, short-at}
-use Rattle.terms.proofs.Joining.{bound-same, outcome-for, outcome-same, outcome-then, outcome-parted}
-use Rattle.terms.proofs.Weight.{weight, lighter-bound, lighter-bound-second, lighter-arguments, lighter-first, lighter-others, lighter-fewer}
 
 -- what an answer of `look_at` means for the term at the place
 abbrev pub Means : List ℕ → List ℕ → List ℕ → List ℕ → ℕ → Look → Type 0
@@ -36,8 +31,8 @@ Means F a b places p (Function f) =
     (firstTerm (termsAt F a b p) ≡ app f (takeTerms (getD F f 0) (termsAt F a b (p + 1)))) × (f < length F)
     × Run F (cellsAt a b (p + 1)) (getD F f 0) × (p + 1 < noPlace)
 
--- past the end it does not matter what is said of the end
-same-inside : (l : List ℕ) (i d e : ℕ) → i < length l → getD l i d ≡ getD l i e
+-- inside a list it does not matter what is said of its end
+pub same-inside : (l : List ℕ) (i d e : ℕ) → i < length l → getD l i d ≡ getD l i e
 same-inside [] i d e h = absurd (omega arith)
 same-inside (x ∷ l) zero d e h = refl
 same-inside (x ∷ l) (suc i) d e h = same-inside l i d e (omega arith)

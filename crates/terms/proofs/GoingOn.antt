@@ -1,23 +1,21 @@
 -- The ways on in a comparison of terms at two places: what a call needs, that it weighs less, and what its outcome says.
-use Prim.Native.Nat.{ℕ, zero, suc, _+_, _-_, _*_, _≤_, _<_}
-use mathlib.Core.Path.{_≡_, refl, sym, ap, ap₂, subst, _∙_}
-use mathlib.Core.Logic.{_⊎_, inl, inr, _↔_}
+use Prim.Native.Nat.{ℕ, suc, _+_, _≤_, _<_}
+use mathlib.Core.Path.{_≡_, refl, sym, ap, subst, _∙_}
+use mathlib.Core.Logic.{_⊎_, inl, inr}
 use mathlib.Core.Bool.{Bool, true, false}
-use mathlib.Core.Option.{Option, none, some}
 use mathlib.Core.List.{List, append-nil}
-use native.Mathlib.Nat.{le-trans}
 use native.Mathlib.Omega.{arith}
 use lib.ListN.{length, getD}
 use Rattle.terms.specs.Term.{Term, Terms, var, app, nil, cons, Subst, sub, subs}
 use Rattle.terms.specs.Cells.{enc, encs, atomCells, takeTerms, Run}
 use Rattle.terms.specs.Walk.{cellsOf}
-use Rattle.terms.specs.Store.{noPlace, cellsAt, termsAt, firstTerm, bound}
-use Rattle.terms.specs.Unifying.{baseOf, Kept, Solves, Outcome, Followed, Bindable, Comparable, Compared, free}
+use Rattle.terms.specs.Store.{cellsAt, termsAt, firstTerm, bound}
+use Rattle.terms.specs.Unifying.{baseOf, Kept, Outcome, Followed, Bindable, Comparable, Compared, free}
 use Rattle.terms.specs.declared.unifier.Look.the-variants.{Unbound, Bound, Function}
 use Rattle.terms.proofs.Runs.{run-terms}
 use Rattle.terms.proofs.Steps.{run-within}
 use Rattle.terms.proofs.Standings.{Next, next-term, terms-at-run}
-use Rattle.terms.proofs.Bound.{renumbered-cells, renumbered-cells-all, short-at}
+use Rattle.terms.proofs.Bound.{renumbered-cells-all, short-at}
 use Rattle.terms.proofs.Joining.{bound-same, outcome-for, outcome-same, outcome-then, outcome-parted}
 use Rattle.terms.proofs.Weight.{weight, lighter-bound, lighter-bound-second, lighter-arguments, lighter-first, lighter-others, lighter-fewer}
 use Rattle.terms.proofs.Comparing.{Means, place-past}

@@ -1,24 +1,16 @@
 -- The steps of unification: what each finds of the solutions of the store, and the store that it leaves.
-use Prim.Native.Nat.{ℕ, zero, suc, _+_, _-_, _*_, _≤_, _<_}
-use mathlib.Core.Path.{_≡_, refl, sym, ap, ap₂, subst, _∙_}
-use mathlib.Core.Logic.{_⊎_, inl, inr, _↔_, ⊎-elim}
+use Prim.Native.Nat.{ℕ, _<_}
+use mathlib.Core.Path.{_≡_, refl, sym, ap, ap₂, _∙_}
+use mathlib.Core.Logic.{_⊎_, inl, inr, _↔_}
 use mathlib.Core.Bool.{Bool, true, false}
-use mathlib.Core.Option.{Option, none, some}
+use mathlib.Core.Option.{some}
 use mathlib.Core.List.{List}
-use native.Mathlib.Nat.{le-trans, mul-le-mul-left}
-use native.Mathlib.Decide.{ℕ-discrete}
 use native.Mathlib.Omega.{arith}
-use lib.ListN.{length, getD, set, length-set}
-use lib.Seq.{getD-set-same, getD-set-other}
-use Rattle.terms.specs.Term.{Term, Terms, var, app, nil, cons, Subst, sub, subs, Occ, Occs}
-use Rattle.terms.specs.Cells.{enc, Keeps, variables, atomCells, pick, Run}
-use Rattle.terms.specs.Mask.{Has}
-use Rattle.terms.specs.Store.{noPlace, cellsAt, termsAt, firstTerm, bound, Stands, StandAll, unbound, followed, node, done, more}
-use Rattle.terms.specs.Unifying.{Full, steps, free, most, Kept, Solves, Joined, Parted, Outcome, Followed, AllReplaced}
-use Rattle.terms.proofs.Solutions.{bind, occurs-check}
-use Rattle.terms.proofs.Standing.{Bindings, stands-sub, unbound-itself, bound-follows, full-more}
-use Rattle.terms.proofs.Stores.{solves-sub, extended, extended-solves}
-use Rattle.terms.proofs.Binding.{occ-bind, fewer-free, free-most, bound-now, bound-elsewhere, unbound-place}
+use Rattle.terms.specs.Term.{Term, Terms, app, nil, cons, Subst, sub, subs}
+use Rattle.terms.specs.Store.{Stands, StandAll, unbound, followed, node, done, more}
+use Rattle.terms.specs.Unifying.{Full, free, Kept, Solves, Outcome}
+use Rattle.terms.proofs.Standing.{Bindings, stands-sub, unbound-itself, bound-follows}
+use Rattle.terms.proofs.Stores.{solves-sub}
 
 -- what a term stands for in full is one term
 mutual

@@ -1,7 +1,7 @@
 -- A set that has x loses it and gains another set: as a difference and a union of masks, set by set.
-use Prim.Native.Nat.{ℕ, zero, suc, _+_, _-_, _^_, _≤_, _<_}
-use mathlib.Core.Path.{_≡_, refl, sym, ap, subst, _∙_}
-use mathlib.Core.Logic.{_⊎_, inl, inr, _↔_}
+use Prim.Native.Nat.{ℕ, _+_, _-_, _^_, _≤_, _<_}
+use mathlib.Core.Path.{_≡_, sym, _∙_}
+use mathlib.Core.Logic.{_⊎_, inl, inr}
 use mathlib.Core.List.{List}
 use native.Mathlib.Decide.{ℕ-discrete}
 use native.Mathlib.Omega.{arith}
@@ -10,7 +10,6 @@ use lib.ListN.{length, getD, set, length-set}
 use lib.Seq.{getD-set-same, getD-set-other}
 use Rattle.terms.specs.Mask.{Has, Marks}
 use Rattle.terms.specs.Unifying.{Replaced}
-use Rattle.terms.proofs.Variables.{both-decided}
 use Rattle.terms.proofs.Masks.{has-decided, has-none, has-or, has-and, has-one, has-below, width, width-below, maskOf, maskOf-marks, same-marks}
 
 -- the set without x

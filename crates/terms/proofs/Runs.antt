@@ -1,15 +1,12 @@
 -- A run of cells determines its terms: what `termsOf` reads from the cells of terms are those terms.
-use Prim.Native.Nat.{ℕ, zero, suc, _+_, _-_, _<_}
-use mathlib.Core.Path.{_≡_, refl, sym, ap, ap₂, _∙_}
-use mathlib.Core.Bool.{Bool, true, false}
-use mathlib.Core.List.{List, [], _∷_, _++_, append-assoc}
-use native.Mathlib.Nat.{le-add-right, add-sub-cancel-left}
+use Prim.Native.Nat.{ℕ, zero, suc, _+_, _<_}
+use mathlib.Core.Path.{_≡_, refl, sym, ap, _∙_}
+use mathlib.Core.List.{List, [], _++_, append-assoc}
 use native.Mathlib.Omega.{arith}
-use lib.ListN.{length, getD}
-use lib.Dec.{ltb}
+use lib.ListN.{getD}
 use borrow.Author.Tests.{lt-ltb, le-ltb}
 use Rattle.terms.specs.Term.{Term, Terms, var, app, nil, cons, count, join}
-use Rattle.terms.specs.Cells.{enc, encs, Keeps, Keepss, pick, takeTerms, dropTerms, before, termsOf, firstVariable, Run}
+use Rattle.terms.specs.Cells.{enc, encs, Keeps, Keepss, takeTerms, dropTerms, before, termsOf, firstVariable, Run}
 
 pub take-join : (ts us : Terms) (n : ℕ) → count ts ≡ n → takeTerms n (join ts us) ≡ ts
 take-join nil us zero e = refl

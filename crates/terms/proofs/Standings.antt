@@ -1,22 +1,21 @@
 -- The terms that stand at a place of one of two atoms: what the place's cell says of them, and where the next ones stand.
 use Prim.Native.Nat.{ℕ, zero, suc, _+_, _-_, _≤_, _<_}
-use mathlib.Core.Path.{_≡_, refl, sym, ap, ap₂, subst, _∙_}
-use mathlib.Core.List.{List, [], _∷_, _++_, append-assoc, append-nil}
+use mathlib.Core.Path.{_≡_, refl, sym, ap, ap₂, _∙_}
+use mathlib.Core.List.{List, _++_, append-assoc, append-nil}
 use native.Mathlib.Nat.{zero-add}
 use native.Mathlib.Decide.{decLt}
 use native.Mathlib.Omega.{arith}
-use lib.ListN.{length, getD, take, drop, length-drop, length-append}
-use lib.Dec.{ltb}
+use lib.ListN.{length, getD, take, drop, length-drop}
 use lib.Seq.{drop-drop, take-append-seam, drop-append-seam}
 use borrow.Author.Tests.{lt-ltb, le-ltb}
-use Rattle.terms.specs.Term.{Term, Terms, var, app, nil, cons, count, join, Subst, sub, subs}
-use Rattle.terms.specs.Cells.{enc, encs, Keeps, Keepss, takeTerms, termsOf, firstVariable, variables, atomCells, pick, Run}
+use Rattle.terms.specs.Term.{Term, Terms, var, app, nil, cons, count, Subst, sub, subs}
+use Rattle.terms.specs.Cells.{enc, encs, Keeps, Keepss, takeTerms, termsOf, firstVariable, variables, atomCells, Run}
 use Rattle.terms.specs.Walk.{cellsOf}
-use Rattle.terms.specs.Store.{secondAtom, second, cellsAt, termsAt, variableAt, firstTerm}
+use Rattle.terms.specs.Store.{secondAtom, cellsAt, termsAt, variableAt, firstTerm}
 use Rattle.terms.specs.Unifying.{CellAt, baseOf}
-use Rattle.terms.proofs.Runs.{terms-encs, run-terms, take-join}
-use Rattle.terms.proofs.Steps.{First, variable, function, first-of, run-cell, run-within, encs-join, keeps-join, count-join}
-use Rattle.terms.proofs.Places.{cells-first, cells-second, place-within}
+use Rattle.terms.proofs.Runs.{run-terms}
+use Rattle.terms.proofs.Steps.{run-cell, run-within}
+use Rattle.terms.proofs.Places.{cells-first, cells-second}
 
 -- an atom's terms in the store's numbering
 abbrev pub kept-apart : ℕ → Terms → Terms

@@ -1,15 +1,14 @@
 -- One cell of a run: what stands behind a variable's cell and behind a function's cell, and how many cells the terms have.
-use Prim.Native.Nat.{ℕ, zero, suc, _+_, _-_, _≤_, _<_}
-use mathlib.Core.Path.{_≡_, refl, sym, ap, ap₂, subst, _∙_}
+use Prim.Native.Nat.{ℕ, suc, _+_, _-_, _≤_, _<_}
+use mathlib.Core.Path.{_≡_, refl, sym, ap, ap₂, _∙_}
 use mathlib.Core.List.{List, [], _∷_, _++_, append-assoc}
-use native.Mathlib.Nat.{le-trans}
 use native.Mathlib.Omega.{arith}
 use lib.ListN.{length, getD, take, drop, length-append}
 use lib.Seq.{take-all}
 use Rattle.terms.specs.Term.{Term, Terms, var, app, nil, cons, count, join}
-use Rattle.terms.specs.Cells.{enc, encs, Keeps, Keepss, takeTerms, termsOf, firstVariable, variables, Run}
+use Rattle.terms.specs.Cells.{enc, encs, Keepss, firstVariable, variables, Run}
 use Rattle.terms.specs.Walk.{cellsOf}
-use Rattle.terms.proofs.Runs.{terms-encs, take-join, run-terms}
+use Rattle.terms.proofs.Runs.{run-terms}
 
 -- the cells behind the first one, as `&run[1..]` has them
 abbrev pub behind : List ℕ → List ℕ

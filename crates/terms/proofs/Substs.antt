@@ -1,7 +1,7 @@
 -- Laws of substitution: composition, agreement on the variables that occur, what holds of every variable, ground terms.
 use Prim.Native.Nat.{ℕ}
-use mathlib.Core.Path.{_≡_, refl, sym, ap, ap₂, _∙_, fun-ext}
-use mathlib.Core.Logic.{_⊎_, inl, inr}
+use mathlib.Core.Path.{_≡_, refl, sym, ap, ap₂, _∙_}
+use mathlib.Core.Logic.{inl, inr}
 use Rattle.terms.specs.Term.{Term, Terms, var, app, nil, cons, Subst, sub, subs, comp, All, Alls, Occ, Occs, Ground}
 
 -- one substitution after another is their composition

@@ -1,13 +1,13 @@
 -- The walks for variables, a cell at a time: what the first cell adds to what the cells behind it have.
-use Prim.Native.Nat.{ℕ, zero, suc, _+_, _-_, _^_, _≤_, _<_}
-use mathlib.Core.Path.{_≡_, refl, sym, ap, subst, _∙_}
+use Prim.Native.Nat.{ℕ, suc, _+_, _-_, _^_, _≤_, _<_}
+use mathlib.Core.Path.{_≡_, refl}
 use mathlib.Core.Logic.{_⊎_, inl, inr, _↔_}
 use mathlib.Core.List.{List, [], _∷_}
 use native.Mathlib.Omega.{arith}
-use lib.ListN.{length, getD, take, drop, length-take, length-drop}
+use lib.ListN.{length, getD}
 use lib.Bits.{bitOr}
-use Rattle.terms.specs.Cells.{firstVariable, variables}
-use Rattle.terms.specs.Mask.{Has, Marks}
+use Rattle.terms.specs.Cells.{firstVariable}
+use Rattle.terms.specs.Mask.{Has}
 use Rattle.terms.specs.Walk.{InRun, Cells, Present, InSets}
 use Rattle.terms.proofs.Masks.{has-none, has-or, has-one}
 use Rattle.terms.proofs.Steps.{behind, behind-cons}

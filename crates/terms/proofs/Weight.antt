@@ -1,17 +1,16 @@
 -- Why unification ends: a weight of the unbound variables and of the cells left when the bindings are written out.
 use Prim.Native.Nat.{ℕ, zero, suc, _+_, _-_, _*_, _≤_, _<_}
 use mathlib.Core.Path.{_≡_, refl, sym, ap, ap₂, subst, _∙_}
-use mathlib.Core.Logic.{_⊎_, inl, inr}
-use mathlib.Core.Option.{Option, none, some}
+use mathlib.Core.Option.{none, some}
 use mathlib.Core.List.{List, append-nil}
 use Prim.Native.Nat.{suc-le-suc}
 use native.Mathlib.Nat.{le-trans, mul-le-mul, mul-le-mul-right, suc-mul, zero-add, suc-add, le-mul-of-pos-right}
 use native.Mathlib.Omega.{arith}
 use lib.ListN.{length, length-append}
-use Rattle.terms.specs.Term.{Term, Terms, var, app, nil, cons, Subst, sub, subs}
+use Rattle.terms.specs.Term.{Term, Terms, var, app, nil, cons, Subst}
 use Rattle.terms.specs.Cells.{enc, encs, atomCells}
 use Rattle.terms.specs.Store.{bound, Stands, StandAll, unbound, followed, node, done, more}
-use Rattle.terms.specs.Unifying.{Full, steps, stepsAll, free, most, Kept}
+use Rattle.terms.specs.Unifying.{steps, stepsAll, free, most, Kept}
 use Rattle.terms.proofs.Standing.{Bindings, stands-sub, stand-subs, bound-follows}
 
 -- how many steps it takes to find what terms stand for, tried for at most k steps

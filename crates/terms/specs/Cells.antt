@@ -5,7 +5,7 @@ use mathlib.Core.Bool.{Bool, true, false}
 use mathlib.Core.List.{List, [], _∷_, _++_}
 use lib.ListN.{length, getD}
 use lib.Dec.{ltb}
-use Rattle.terms.specs.Term.{Term, Terms, var, app, nil, cons, count, Subst, sub, All}
+use Rattle.terms.specs.Term.{Term, Terms, var, app, nil, cons, count}
 
 -- "a variable, 32768 + v"
 abbrev pub firstVariable : ℕ

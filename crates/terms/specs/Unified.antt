@@ -3,25 +3,27 @@ use Prim.Native.Nat.{ℕ, _+_, _<_}
 use mathlib.Core.Path.{_≡_}
 use mathlib.Core.List.{List}
 use mathlib.Core.Bool.{Bool}
-use lib.ListN.{getD}
-use Rattle.terms.specs.Term.{Term, Subst, var}
-use Rattle.terms.specs.Cells.{variables, pick, enc, Atom}
-use Rattle.terms.specs.Mask.{Has, Marks}
-use Rattle.terms.specs.Term.{Occ}
+use lib.ListN.{length, getD}
+use Rattle.terms.specs.Term.{Term, Subst, var, Occ}
+use Rattle.terms.specs.Cells.{variables, pick, enc, Atom, Run}
+use Rattle.terms.specs.Mask.{Marks}
 use Rattle.terms.specs.Unifier.{Apart, MostGeneral}
-use Rattle.terms.specs.Store.{bound, Stands}
+use Rattle.terms.specs.Store.{noPlace, cellsAt, bound, Stands}
 
 -- "What a variable stands for": variable v of the first atom has its set at v, variable v of the second at 16 + v
 pub record Sets (α β : Subst) (sets : List ℕ) : Type 0 where
   pub first : (v : ℕ) → v < variables → Marks (λ z. Occ z (α v)) (getD sets v 0)
   pub second : (v : ℕ) → v < variables → Marks (λ z. Occ z (β v)) (getD sets (variables + v) 0)
 
--- the store is a most general unifier: every variable stands in it for what the unifier gives it
+-- the store is a most general unifier: every variable stands in it for what the unifier gives it, and what it is bound to is a whole
+-- term of one of the atoms: "the run of cells itself, in the call's atom or in the clause's atom"
 pub record Unified (functions a b : List ℕ) (A B : Term) (places sets : List ℕ) : Type 0 where
   pub σ : Subst
   pub stands : (x : ℕ) → Stands (bound functions a b places) (var x) (σ x)
   pub most-general : MostGeneral A B σ (λ v. σ (variables + v))
   pub sets-right : Sets σ (λ v. σ (variables + v)) sets
+  pub all-places : length places ≡ variables + variables
+  pub whole : (x : ℕ) → getD places x noPlace < noPlace → Run functions (cellsAt a b (getD places x noPlace)) 1
 
 -- the answer on two runs of cells that are atoms: apart, or unified
 abbrev pub Unification : List ℕ → List ℕ → List ℕ → List ℕ → Bool → List ℕ → List ℕ → Type 0

@@ -2,12 +2,12 @@
 use Prim.Native.Nat.{ℕ, zero, suc, _+_, _-_, _*_, _≤_, _<_}
 use mathlib.Core.Path.{_≡_}
 use mathlib.Core.Logic.{_⊎_, _↔_}
-use mathlib.Core.Bool.{Bool, true, false}
+use mathlib.Core.Bool.{Bool}
 use mathlib.Core.Option.{Option, none, some}
 use mathlib.Core.List.{List, [], _∷_}
 use lib.ListN.{length, getD}
 use lib.Dec.{ltb}
-use Rattle.terms.specs.Term.{Term, Terms, var, app, nil, cons, Subst, sub, subs, Occ}
+use Rattle.terms.specs.Term.{Term, Terms, var, app, Subst, sub, subs, Occ}
 use Rattle.terms.specs.Cells.{firstVariable, variables, atomCells, pick, takeTerms, Run}
 use Rattle.terms.specs.Mask.{Has}
 use Rattle.terms.specs.Store.{secondAtom, noPlace, cellsAt, termsAt, variableAt, firstTerm, bound, Stands, StandAll, unbound, followed, node, done, more}

@@ -1,11 +1,9 @@
 -- What the walks over a run of cells find: where its terms end, which variables are present, whether all are in a set.
-use Prim.Native.Nat.{ℕ, zero, suc, _+_, _<_}
+use Prim.Native.Nat.{ℕ, _+_, _<_}
 use mathlib.Core.Path.{_≡_}
 use mathlib.Core.List.{List, [], _∷_}
 use mathlib.Core.Logic.{_⊎_}
-use mathlib.Core.Bool.{Bool, true, false}
 use lib.ListN.{length, getD}
-use lib.Dec.{T}
 use Rattle.terms.specs.Cells.{firstVariable, variables, encs, termsOf, takeTerms}
 use Rattle.terms.specs.Mask.{Has, Marks}
 

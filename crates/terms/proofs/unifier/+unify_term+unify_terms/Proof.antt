@@ -1,13 +1,12 @@
 -- `unify_term` and `unify_terms` meet their contracts: each way on keeps the store's solutions and weighs less.
 -- Assumes nothing.
-use Prim.Native.Nat.{suc, _+_, _-_, _*_, _≤_}
-use mathlib.Core.Path.{_≡_, refl, sym, ap, subst, _∙_}
+use Prim.Native.Nat.{suc, _+_, _-_, _*_}
+use mathlib.Core.Path.{_≡_, sym, subst}
 use mathlib.Core.Logic.{inl, inr}
 use native.Mathlib.Omega.{arith}
 use borrow.Author.Needs.{needs}
 use borrow.Author.Tests.{not-true, not-false}
-use lib.ListN.{length, getD}
-use Rattle.terms.specs.declared.unifier.Look.the-variants.{Unbound, Bound, Function}
+use Rattle.terms.specs.declared.unifier.Look.the-variants.{Unbound, Function}
 use Rattle.terms.proofs.Standings.{cell-at}
 use Rattle.terms.proofs.Bound.{short-at}
 use Rattle.terms.specs.Unifying.{Compared}

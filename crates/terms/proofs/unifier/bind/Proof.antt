@@ -1,14 +1,11 @@
 -- `bind` meets its contract: the set that it gains is that of what the term stands for, so the test is the occurs check.
 -- Assumes nothing.
-use Prim.Native.Nat.{ℕ, _+_}
-use mathlib.Core.Path.{_≡_, ap, sym, _∙_}
-use mathlib.Core.List.{List}
 use lib.Dec.{T}
 use Rattle.terms.specs.Cells.{enc}
 use Rattle.terms.proofs.Walks.{Union}
 use Rattle.terms.proofs.Binding.{cells-enc}
-use Rattle.terms.proofs.Standings.{Next, next-term}
-use Rattle.terms.proofs.Bound.{here, Gained, parted-bound, joined-bound}
+use Rattle.terms.proofs.Standings.{next-term}
+use Rattle.terms.proofs.Bound.{parted-bound, joined-bound}
 use borrow.Author.Needs.{needs}
 use Rattle.terms.proofs.unifier.bind.Statement.{statement}
 use Rattle.terms.proofs.unifier.bind.Tie as tie

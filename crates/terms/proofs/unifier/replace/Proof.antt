@@ -1,6 +1,6 @@
 -- `replace` meets its contract. The invariant: the sets passed are replaced, the others are as they were. The measure is what is left of the 32.
 -- Assumes nothing.
-use Prim.Native.Nat.{ℕ, _-_, _≤_}
+use Prim.Native.Nat.{_-_, _≤_}
 use native.Mathlib.Omega.{arith}
 use borrow.Author.Needs.{needs}
 use mathlib.Core.Path.{refl}

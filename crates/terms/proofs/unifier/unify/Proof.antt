@@ -1,6 +1,4 @@
 -- `unify` meets its contract: the arguments are compared from a store in which every variable stands for itself. Assumes nothing.
-use mathlib.Core.Path.{_≡_, sym, ap, _∙_}
-use lib.ListN.{length}
 use Rattle.terms.proofs.Atoms.{first-some, second-some, first-predicate, predicates-apart, arguments-comparable, atoms-answer}
 use borrow.Author.Needs.{needs}
 use Rattle.terms.proofs.unifier.unify.Statement.{statement}

@@ -2,15 +2,11 @@
 -- Assumes nothing.
 use native.Mathlib.Omega.{arith}
 use borrow.Author.Needs.{needs}
-use lib.ListN.{getD, length}
-use Prim.Native.Nat.{_-_, _^_}
-use mathlib.Core.Path.{_≡_, refl}
+use lib.ListN.{length}
+use mathlib.Core.Path.{refl}
 use lib.Dec.{T}
 use Rattle.terms.proofs.Walks.{no-cells, in-behind, in-variable, inside-variable, cells-behind, behind-shorter}
-use mathlib.Core.Logic.{_⊎_, inl, inr}
-use Rattle.terms.specs.Mask.{Has}
-use Rattle.terms.specs.Walk.{InRun}
-use Rattle.terms.proofs.Steps.{behind}
+use mathlib.Core.Logic.{inl, inr}
 use Prim.Native.Nat.{ℕ, _<_}
 use borrow.Fn.Kinds.{In}
 use borrow.Fn.PlainCycle.{Measures, is, falls, and}

@@ -1,13 +1,12 @@
 -- `terms_end` meets its contract: a cell ends one of the terms that are left, or opens as many as its arity. The measure is the run's length.
 -- Assumes nothing.
-use Prim.Native.Nat.{ℕ, _+_, _-_, _*_, _^_, _≤_, _<_}
-use mathlib.Core.Path.{_≡_, refl, sym, ap, _∙_}
+use Prim.Native.Nat.{ℕ, _+_, _-_, _<_}
+use mathlib.Core.Path.{_≡_, ap, _∙_}
 use native.Mathlib.Omega.{arith}
-use lib.ListN.{length, getD, take, drop, length-take, length-drop}
+use lib.ListN.{length, drop, length-take, length-drop}
 use borrow.Author.Needs.{needs}
 use borrow.Fn.Kinds.{In}
 use borrow.Fn.PlainCycle.{Measures, is, falls, and}
-use Rattle.terms.specs.Cells.{Run}
 use Rattle.terms.specs.Walk.{cellsOf}
 use Rattle.terms.proofs.Steps.{behind, run-cell, run-many, run-within, function-declared, function-run, variable-run, function-cells, variable-cells}
 use Rattle.terms.proofs.walk.terms_end.Reads as terms-end

@@ -2,9 +2,7 @@
 -- Assumes nothing.
 use native.Mathlib.Omega.{arith}
 use borrow.Author.Needs.{needs}
-use lib.ListN.{getD, length}
-use Prim.Native.Nat.{_-_, _^_}
-use mathlib.Core.Path.{_≡_, ap}
+use lib.ListN.{length}
 use Rattle.terms.proofs.Walks.{union-none, union-function, union-variable, cells-behind, behind-shorter}
 use Prim.Native.Nat.{ℕ, _<_}
 use borrow.Fn.Kinds.{In}

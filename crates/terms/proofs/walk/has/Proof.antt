@@ -1,8 +1,7 @@
 -- `has` meets its contract: it tests the very bit. Assumes nothing.
 use borrow.Author.Needs.{needs}
-use lib.Dec.{eqb→eq, eqb-refl, T, eqb}
-use Prim.Native.Nat.{ℕ, _/_, _%_, _^_}
-use mathlib.Core.Path.{_≡_, subst, sym}
+use lib.Dec.{eqb→eq}
+use Prim.Native.Nat.{_/_, _%_, _^_}
 use Rattle.terms.proofs.walk.has.Statement.{statement}
 use Rattle.terms.proofs.walk.has.Tie as tie
 
