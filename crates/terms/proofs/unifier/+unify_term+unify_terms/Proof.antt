@@ -278,7 +278,7 @@ pub +unify-term+unify-terms-spec : {M : Type 1} → statement M
     (c .before .before .before .before .before .unify-term .last .1 .1 .1 .1 .1 .1 .0))
     (not-false (c .before .before .before .before .before .unify-term .result) (c .before .before .before .before .if2 .left))
     (c .before .before .before .before .before .unify-term .ensures)) in
-    rw (c .before .before .before .after .ensures, c .before .before .after2 .ensures)
+    simp (c .before .before .before .after .ensures, c .before .before .after2 .ensures)
     (rw (← st .pre .0) (omega (arith, others-lighter F a b Q S s t n R (n - 1) e P1 S1 o)), others F a b Q S s t n R (n - 1) e P1 S1 o))  -- unify-terms-unify-terms-requires
     (λ c. let st = c .before .before .before .before .before .before .before .before .before .before .before .before .before in
     let F = st .args .functions .now in let a = st .args .a .now in let b = st .args .b .now in let s = st .args .s in let t = st .args .t in
