@@ -184,12 +184,18 @@ module _ (F a b P S : List ℕ) (s t n : ℕ) (R : Comparable F a b P S s t n) w
     pub first-pair-lighter : load F a b P s t 1 ≤ load F a b P s t n
     first-pair-lighter =
         rw (e, first .together, second .together, first .first-alone, second .first-alone)
-        (lighter-first F a b P S (R .σ) (R .kept) (firstTerm (termsAt F a b s)) (firstTerm (termsAt F a b t)) (takeTerms m (termsAt F a b (s + cellsOf F (cellsAt a b s) 1))) (takeTerms m (termsAt F a b (t + cellsOf F (cellsAt a b t) 1))) short-first-all short-second-all)
+        (lighter-first F a b P S (R .σ) (R .kept)
+        (firstTerm (termsAt F a b s)) (firstTerm (termsAt F a b t))
+        (takeTerms m (termsAt F a b (s + cellsOf F (cellsAt a b s) 1))) (takeTerms m (termsAt F a b (t + cellsOf F (cellsAt a b t) 1)))
+        short-first-all short-second-all)
 
     pub first-parted : (P′ S′ P″ S″ : List ℕ) → Compared F a b P S s t 1 false P′ S′ → Compared F a b P S s t n false P″ S″
     first-parted P′ S′ P″ S″ o =
         rw (e, first .together, second .together)
-        (outcome-parted F a b P S (firstTerm (termsAt F a b s)) (firstTerm (termsAt F a b t)) (takeTerms m (termsAt F a b (s + cellsOf F (cellsAt a b s) 1))) (takeTerms m (termsAt F a b (t + cellsOf F (cellsAt a b t) 1))) P′ S′ P″ S″ (rw (first .first-alone, second .first-alone) at o))
+        (outcome-parted F a b P S
+        (firstTerm (termsAt F a b s)) (firstTerm (termsAt F a b t))
+        (takeTerms m (termsAt F a b (s + cellsOf F (cellsAt a b s) 1))) (takeTerms m (termsAt F a b (t + cellsOf F (cellsAt a b t) 1)))
+        P′ S′ P″ S″ (rw (first .first-alone, second .first-alone) at o))
 
     -- the first pair is joined: on with the others
     module _ (P′ S′ : List ℕ) (o : Compared F a b P S s t 1 true P′ S′) where
@@ -217,10 +223,16 @@ module _ (F a b P S : List ℕ) (s t n : ℕ) (R : Comparable F a b P S s t n) w
               (short-terms F a b P′ S′ (others .σ) (t + cellsOf F (cellsAt a b t) 1) m (others .kept) (second .others))
           go (inr h) =
               rw (h .0, e, first .together, second .together)
-              (lighter-others F a b P S (R .σ) (R .kept) (firstTerm (termsAt F a b s)) (firstTerm (termsAt F a b t)) (takeTerms m (termsAt F a b (s + cellsOf F (cellsAt a b s) 1))) (takeTerms m (termsAt F a b (t + cellsOf F (cellsAt a b t) 1))) short-first-all short-second-all)
+              (lighter-others F a b P S (R .σ) (R .kept)
+              (firstTerm (termsAt F a b s)) (firstTerm (termsAt F a b t))
+              (takeTerms m (termsAt F a b (s + cellsOf F (cellsAt a b s) 1))) (takeTerms m (termsAt F a b (t + cellsOf F (cellsAt a b t) 1)))
+              short-first-all short-second-all)
 
       pub others-outcome : (r : Bool) (P″ S″ : List ℕ)
           → Compared F a b P′ S′ (s + cellsOf F (cellsAt a b s) 1) (t + cellsOf F (cellsAt a b t) 1) m r P″ S″ → Compared F a b P S s t n r P″ S″
       others-outcome r P″ S″ o′ =
           rw (e, first .together, second .together)
-          (outcome-then F a b P S (firstTerm (termsAt F a b s)) (firstTerm (termsAt F a b t)) (takeTerms m (termsAt F a b (s + cellsOf F (cellsAt a b s) 1))) (takeTerms m (termsAt F a b (t + cellsOf F (cellsAt a b t) 1))) P′ S′ r P″ S″ (rw (first .first-alone, second .first-alone) at o) o′)
+          (outcome-then F a b P S
+          (firstTerm (termsAt F a b s)) (firstTerm (termsAt F a b t))
+          (takeTerms m (termsAt F a b (s + cellsOf F (cellsAt a b s) 1))) (takeTerms m (termsAt F a b (t + cellsOf F (cellsAt a b t) 1)))
+          P′ S′ r P″ S″ (rw (first .first-alone, second .first-alone) at o) o′)

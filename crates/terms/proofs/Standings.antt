@@ -114,7 +114,13 @@ next-term F a b p n short r = go (r .terms) (r .cut) (r .keeps) (r .many)
     go (cons t ts) e k m =
         let e₁ : cellsAt a b p ≡ enc t ++ (encs ts ++ r .rest) = e ∙ append-assoc (enc t) (encs ts) (r .rest) in
         let one : Run F (cellsAt a b p) 1 =
-        record { terms = cons t nil; rest = encs ts ++ r .rest; cut = e₁ ∙ ap (λ (l : List ℕ). l ++ (encs ts ++ r .rest)) (sym (append-nil (enc t))); keeps = (k .0, tt); many = refl } in
+        record {
+          terms = cons t nil;
+          rest = encs ts ++ r .rest;
+          cut = e₁ ∙ ap (λ (l : List ℕ). l ++ (encs ts ++ r .rest)) (sym (append-nil (enc t)));
+          keeps = (k .0, tt);
+          many = refl;
+        } in
         let all : Run F (cellsAt a b p) (suc n) = record { terms = cons t ts; rest = r .rest; cut = e; keeps = k; many = m } in
         let long : cellsOf F (cellsAt a b p) 1 ≡ length (enc t) =
         ap (λ (us : Terms). length (encs us)) (run-terms F (cellsAt a b p) 1 one) ∙ ap length (append-nil (enc t)) in

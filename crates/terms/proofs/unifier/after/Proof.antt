@@ -14,7 +14,8 @@ add-result : tie.Need-add-result
 add-result c = search needs
 
 returns : tie.Need-returns
-returns c = ap (λ (n : ℕ). c .before .before .before .before .args .place + n) (ap length (c .resolve .ensures) ∙ sym (run-length (c .before .before .before .before .args .functions .now) _ (c .before .before .before .before .pre .0)))
+returns c = ap (λ (n : ℕ). c .before .before .before .before .args .place + n)
+    (ap length (c .resolve .ensures) ∙ sym (run-length (c .before .before .before .before .args .functions .now) _ (c .before .before .before .before .pre .0)))
 
 pub after-spec : {M : Type 1} → statement M
 after-spec = tie.close (tie.spec resolve-requires add-result returns)

@@ -8,7 +8,10 @@ cell-at-requires : tie.Need-cell-at-requires
 cell-at-requires c κs = search needs
 
 returns : tie.Need-returns
-returns c = let a = c .before .before .before .before .args .a .now in let b = c .before .before .before .before .args .b .now in let p = c .before .before .before .before .args .place in let q = c .before .before .before .before .args .places .now in look-function a b q p (c .before .cell-at .result) (c .before .cell-at .ensures) (c .if1 .taken)
+returns c =
+    let a = c .before .before .before .before .args .a .now in let b = c .before .before .before .before .args .b .now in
+    let p = c .before .before .before .before .args .place in let q = c .before .before .before .before .args .places .now in
+    look-function a b q p (c .before .cell-at .result) (c .before .cell-at .ensures) (c .if1 .taken)
 
 variable-at-requires : tie.Need-variable-at-requires
 variable-at-requires c κs = search needs
@@ -20,10 +23,23 @@ wide-place-requires : tie.Need-wide-place-requires
 wide-place-requires c κs = search needs
 
 returns-2 : tie.Need-returns-2
-returns-2 c = let a = c .before .before .before .before .before .before .before .before .args .a .now in let b = c .before .before .before .before .before .before .before .before .args .b .now in let p = c .before .before .before .before .before .before .before .before .args .place in let q = c .before .before .before .before .before .before .before .before .args .places .now in look-bound a b q p (c .before .before .before .before .before .cell-at .result) (c .before .before .before .variable-at .result) (c .wide-place .result) (c .before .before .before .before .before .cell-at .ensures) (c .before .before .before .before .if1 .left) (c .before .before .before .variable-at .ensures .0) (c .wide-place .ensures .0) (c .before .if2 .taken)
+returns-2 c =
+    let a = c .before .before .before .before .before .before .before .before .args .a .now in
+    let b = c .before .before .before .before .before .before .before .before .args .b .now in
+    let p = c .before .before .before .before .before .before .before .before .args .place in
+    let q = c .before .before .before .before .before .before .before .before .args .places .now in
+    look-bound a b q p (c .before .before .before .before .before .cell-at .result) (c .before .before .before .variable-at .result) (c .wide-place .result)
+    (c .before .before .before .before .before .cell-at .ensures) (c .before .before .before .before .if1 .left)
+    (c .before .before .before .variable-at .ensures .0) (c .wide-place .ensures .0) (c .before .if2 .taken)
 
 returns-3 : tie.Need-returns-3
-returns-3 c = let a = c .before .before .before .before .before .before .before .args .a .now in let b = c .before .before .before .before .before .before .before .args .b .now in let p = c .before .before .before .before .before .before .before .args .place in let q = c .before .before .before .before .before .before .before .args .places .now in look-unbound a b q p (c .before .before .before .before .cell-at .result) (c .before .before .variable-at .result) (c .before .before .before .before .cell-at .ensures) (c .before .before .before .if1 .left) (c .before .before .variable-at .ensures .0) (c .if2 .left)
+returns-3 c =
+    let a = c .before .before .before .before .before .before .before .args .a .now in
+    let b = c .before .before .before .before .before .before .before .args .b .now in
+    let p = c .before .before .before .before .before .before .before .args .place in
+    let q = c .before .before .before .before .before .before .before .args .places .now in
+    look-unbound a b q p (c .before .before .before .before .cell-at .result) (c .before .before .variable-at .result)
+    (c .before .before .before .before .cell-at .ensures) (c .before .before .before .if1 .left) (c .before .before .variable-at .ensures .0) (c .if2 .left)
 
 pub look-at-spec : {M : Type 1} → statement M
 look-at-spec =

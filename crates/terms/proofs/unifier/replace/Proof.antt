@@ -33,7 +33,9 @@ only-requires : tie.Need-only-requires Inv-loop μ-loop
 only-requires c κs = search needs
 
 sub-sets : tie.Need-sub-sets Inv-loop μ-loop
-sub-sets c = rw (c .only .ensures) (bit-within (getD (c .before .before .before .before .before .loop .sets) (c .before .before .before .before .before .loop .y) 0) (c .before .before .before .before .before .before .args .x) (c .before .before .has .ensures .0 (rw (c .before .if1 .taken) tt)))
+sub-sets c = rw (c .only .ensures) (bit-within (getD (c .before .before .before .before .before .loop .sets)
+    (c .before .before .before .before .before .loop .y) 0) (c .before .before .before .before .before .before .args .x)
+    (c .before .before .has .ensures .0 (rw (c .before .if1 .taken) tt)))
 
 mul-sets : tie.Need-mul-sets Inv-loop μ-loop
 mul-sets c = omega (arith, c .before .before .before .before .loop-test .taken)
@@ -48,7 +50,18 @@ loop-less : tie.Need-loop-less Inv-loop μ-loop
 loop-less c = omega (arith, c .before .before .before .loop-test .taken)
 
 loop-again : tie.Need-loop-again Inv-loop μ-loop
-loop-again c = (omega (arith, c .before .before .before .loop-test .taken), ⊎-elim (λ w. rw (w .2, w .1 .ensures) (halfway-with (c .before .before .before .before .before .args .x) (c .before .before .before .before .before .args .gained) (c .before .before .before .before .before .args .sets .now) (c .before .before .before .before .loop .sets) (c .before .before .before .before .loop .y) (omega (arith, c .before .before .before .loop-test .taken)) (c .before .before .before .before .loop .inv .1) (c .before .has .ensures .0 (rw (w .0 .taken) tt)))) (λ w. rw (w .1) (halfway-without (c .before .before .before .before .before .args .x) (c .before .before .before .before .before .args .gained) (c .before .before .before .before .before .args .sets .now) (c .before .before .before .before .loop .sets) (c .before .before .before .before .loop .y) (omega (arith, c .before .before .before .loop-test .taken)) (c .before .before .before .before .loop .inv .1) (λ b. let n : T (c .before .has .result) = c .before .has .ensures .1 b in rw (w .0 .left) at n))) (c .if1 .came))
+loop-again c = (
+  omega (arith, c .before .before .before .loop-test .taken),
+  ⊎-elim
+      (λ w. rw (w .2, w .1 .ensures) (halfway-with (c .before .before .before .before .before .args .x) (c .before .before .before .before .before .args .gained)
+      (c .before .before .before .before .before .args .sets .now) (c .before .before .before .before .loop .sets) (c .before .before .before .before .loop .y)
+      (omega (arith, c .before .before .before .loop-test .taken)) (c .before .before .before .before .loop .inv .1)
+      (c .before .has .ensures .0 (rw (w .0 .taken) tt)))) (λ w. rw (w .1)
+      (halfway-without (c .before .before .before .before .before .args .x) (c .before .before .before .before .before .args .gained)
+      (c .before .before .before .before .before .args .sets .now) (c .before .before .before .before .loop .sets) (c .before .before .before .before .loop .y)
+      (omega (arith, c .before .before .before .loop-test .taken)) (c .before .before .before .before .loop .inv .1)
+      (λ b. let n : T (c .before .has .result) = c .before .has .ensures .1 b in rw (w .0 .left) at n))) (c .if1 .came),
+)
 
 returns : tie.Need-returns Inv-loop μ-loop
 returns c = record { as-many = c .before .loop .inv .1 .as-many; each = λ y h. c .before .loop .inv .1 .passed y (omega (arith, c .loop-test .left)) }

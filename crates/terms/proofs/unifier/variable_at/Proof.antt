@@ -14,13 +14,21 @@ wide-requires : tie.Need-wide-requires
 wide-requires c κs = search needs
 
 returns : tie.Need-returns
-returns c = (c .before .wide .ensures .0 ∙ rw (lt-ltb (c .before .before .args .place) 64 (c .if1 .taken)), omega (arith, c .before .wide .ensures .0, c .before .before .pre))
+returns c = (
+  c .before .wide .ensures .0 ∙ rw (lt-ltb (c .before .before .args .place) 64 (c .if1 .taken)),
+  omega
+      (arith, c .before .wide .ensures .0, c .before .before .pre),
+)
 
 add-result : tie.Need-add-result
 add-result c = search needs
 
 returns-2 : tie.Need-returns-2
-returns-2 c = (ap (λ (v : ℕ). 16 + v) (c .before .wide .ensures .0) ∙ rw (le-ltb (c .before .before .args .place) 64 (c .if1 .left)), omega (arith, c .before .wide .ensures .0, c .before .before .pre))
+returns-2 c = (
+  ap (λ (v : ℕ). 16 + v) (c .before .wide .ensures .0) ∙ rw (le-ltb (c .before .before .args .place) 64 (c .if1 .left)),
+  omega
+      (arith, c .before .wide .ensures .0, c .before .before .pre),
+)
 
 pub variable-at-spec : {M : Type 1} → statement M
 variable-at-spec = tie.close (tie.spec sub-wide wide-requires returns add-result returns-2)

@@ -41,15 +41,43 @@ pub +all-in-spec : {M : Type 1} → statement M
     (λ c. (λ _. λ v o. absurd (no-cells (c .before .before .args .run .now) v (c .if1 .taken) o), λ _. tt))  -- all-in-returns
     (λ c. omega (arith, c .before .if1 .left))  -- all-in-shared-slice-read-cell
     (λ c. omega (arith, c .before .before .if1 .left))  -- all-in-sub-all-in
-    (λ c. let h : 0 < length (c .before .before .before .before .args .run .now) = omega (arith, c .before .before .if1 .left) in h)  -- all-in-part-all-in-start
+    (λ c. let h : 0 < length (c .before .before .before .before .args .run .now) = omega (arith, c .before .before .if1 .left) in
+    h)  -- all-in-part-all-in-start
     (λ c. search needs)  -- all-in-part-all-in-end
-    (λ c κs. let R = c .before .before .before .before .before .args .run .now in let h : 0 < length R = omega (arith, c .before .before .before .if1 .left) in (rw (← c .before .before .before .before .before .pre .0) (behind-shorter R h), cells-behind R h (c .before .before .before .before .before .pre .1)))  -- all-in-all-in-requires
-    (λ c. let R = c .before .before .before .before .before .before .args .run .now in let h : 0 < length R = omega (arith, c .before .before .before .before .if1 .left) in (λ b. λ v o. c .all-in .ensures .0 b v (in-behind R v h (c .before .before .if2 .taken) .0 o), λ a. c .all-in .ensures .1 (λ v o. a v (in-behind R v h (c .before .before .if2 .taken) .1 o))))  -- all-in-returns-2
+    (λ c κs. let R = c .before .before .before .before .before .args .run .now in let h : 0 < length R = omega (arith, c .before .before .before .if1 .left) in
+    (rw (← c .before .before .before .before .before .pre .0) (behind-shorter R h), cells-behind R h (c .before .before .before .before .before .pre .1)))  -- all-in-all-in-requires
+    (λ c. let R = c .before .before .before .before .before .before .args .run .now in
+    let h : 0 < length R = omega (arith, c .before .before .before .before .if1 .left) in (
+      λ b. λ v o. c .all-in .ensures .0 b v (in-behind R v h (c .before .before .if2 .taken) .0 o),
+      λ a. c .all-in .ensures .1
+          (λ v o. a v (in-behind R v h (c .before .before .if2 .taken) .1 o)),
+    ))  -- all-in-returns-2
     (λ c κs. search needs)  -- all-in-wide-requires
-    (λ c κs. let R = c .before .before .before .before .before .args .run .now in let h : 0 < length R = omega (arith, c .before .before .before .if1 .left) in omega (arith, c .wide .ensures .0, c .before .before .before .before .before .pre .1 0 h, c .before .if2 .left))  -- all-in-has-requires
+    (λ c κs. let R = c .before .before .before .before .before .args .run .now in let h : 0 < length R = omega (arith, c .before .before .before .if1 .left) in
+    omega (arith, c .wide .ensures .0, c .before .before .before .before .before .pre .1 0 h, c .before .if2 .left))  -- all-in-has-requires
     (λ c. omega (arith, c .before .before .before .before .before .if1 .left))  -- all-in-sub-all-in-2
-    (λ c. let h : 0 < length (c .before .before .before .before .before .before .before .args .run .now) = omega (arith, c .before .before .before .before .before .if1 .left) in h)  -- all-in-part-all-in-start-2
+    (λ c.
+    let h : 0 < length (c .before .before .before .before .before .before .before .args .run .now) = omega
+    (arith, c .before .before .before .before .before .if1 .left) in
+    h)  -- all-in-part-all-in-start-2
     (λ c. search needs)  -- all-in-part-all-in-end-2
-    (λ c κs. let R = c .before .before .before .before .before .before .before .before .args .run .now in let h : 0 < length R = omega (arith, c .before .before .before .before .before .before .if1 .left) in (rw (← c .before .before .before .before .before .before .before .before .pre .0) (behind-shorter R h), cells-behind R h (c .before .before .before .before .before .before .before .before .pre .1)))  -- all-in-all-in-requires-2
-    (λ c. let R = c .before .before .before .before .before .before .before .before .before .args .run .now in let h : 0 < length R = omega (arith, c .before .before .before .before .before .before .before .if1 .left) in (λ b. inside-variable R (c .before .before .before .before .before .before .before .before .before .args .set) h (c .before .before .before .before .before .if2 .left) (rw (c .before .before .before .before .wide .ensures .0) at (c .before .before .before .has .ensures .0 (rw (c .before .before .if3 .taken) tt))) (c .all-in2 .ensures .0 b), λ a. c .all-in2 .ensures .1 (λ v o. a v (in-variable R v h (c .before .before .before .before .before .if2 .left) .1 (inl o)))))  -- all-in-returns-3
-    (λ c. let R = c .before .before .before .before .before .before .before .args .run .now in let h : 0 < length R = omega (arith, c .before .before .before .before .before .if1 .left) in (λ b. absurd b, λ a. let n : T (c .before .has .result) = c .before .has .ensures .1 (rw (c .before .before .wide .ensures .0) (a _ (in-variable R _ h (c .before .before .before .if2 .left) .1 (inr refl)))) in rw (c .if3 .left) at n))  -- all-in-returns-4
+    (λ c κs. let R = c .before .before .before .before .before .before .before .before .args .run .now in
+    let h : 0 < length R = omega (arith, c .before .before .before .before .before .before .if1 .left) in (
+      rw (← c .before .before .before .before .before .before .before .before .pre .0) (behind-shorter R h),
+      cells-behind R h
+          (c .before .before .before .before .before .before .before .before .pre .1),
+    ))  -- all-in-all-in-requires-2
+    (λ c. let R = c .before .before .before .before .before .before .before .before .before .args .run .now in
+    let h : 0 < length R = omega (arith, c .before .before .before .before .before .before .before .if1 .left) in (
+      λ b. inside-variable R (c .before .before .before .before .before .before .before .before .before .args .set) h
+          (c .before .before .before .before .before .if2 .left) (rw (c .before .before .before .before .wide .ensures .0) at
+          (c .before .before .before .has .ensures .0 (rw (c .before .before .if3 .taken) tt))) (c .all-in2 .ensures .0 b),
+      λ a. c .all-in2 .ensures .1
+          (λ v o. a v (in-variable R v h (c .before .before .before .before .before .if2 .left) .1 (inl o))),
+    ))  -- all-in-returns-3
+    (λ c. let R = c .before .before .before .before .before .before .before .args .run .now in
+    let h : 0 < length R = omega (arith, c .before .before .before .before .before .if1 .left) in (
+      λ b. absurd b,
+      λ a. let n : T (c .before .has .result) = c .before .has .ensures .1
+          (rw (c .before .before .wide .ensures .0) (a _ (in-variable R _ h (c .before .before .before .if2 .left) .1 (inr refl)))) in rw (c .if3 .left) at n,
+    ))  -- all-in-returns-4

@@ -39,9 +39,18 @@ pub +present-spec : {M : Type 1} → statement M
     (λ c. omega (arith, c .if1 .left))  -- present-sub-present
     (λ c. let h : 0 < length (c .before .before .args .run .now) = omega (arith, c .if1 .left) in h)  -- present-part-present-start
     (λ c. search needs)  -- present-part-present-end
-    (λ c κs. let R = c .before .before .before .args .run .now in let h : 0 < length R = omega (arith, c .before .if1 .left) in (rw (← c .before .before .before .pre .0) (behind-shorter R h), cells-behind R h (c .before .before .before .pre .1)))  -- present-present-requires
-    (λ c. let R = c .before .before .before .before .before .args .run .now in let h : 0 < length R = omega (arith, c .before .before .before .if1 .left) in h)  -- present-shared-slice-read-cell
-    (λ c. let R = c .before .before .before .before .before .before .args .run .now in let h : 0 < length R = omega (arith, c .before .before .before .before .if1 .left) in present-function R (c .before .before .present .result) h (c .if2 .taken) (c .before .before .present .ensures))  -- present-returns-2
+    (λ c κs. let R = c .before .before .before .args .run .now in let h : 0 < length R = omega (arith, c .before .if1 .left) in
+    (rw (← c .before .before .before .pre .0) (behind-shorter R h), cells-behind R h (c .before .before .before .pre .1)))  -- present-present-requires
+    (λ c. let R = c .before .before .before .before .before .args .run .now in let h : 0 < length R = omega (arith, c .before .before .before .if1 .left) in
+    h)  -- present-shared-slice-read-cell
+    (λ c. let R = c .before .before .before .before .before .before .args .run .now in
+    let h : 0 < length R = omega (arith, c .before .before .before .before .if1 .left) in
+    present-function R (c .before .before .present .result) h (c .if2 .taken) (c .before .before .present .ensures))  -- present-returns-2
     (λ c κs. search needs)  -- present-wide-requires
-    (λ c κs. let R = c .before .before .before .before .before .before .before .args .run .now in let h : 0 < length R = omega (arith, c .before .before .before .before .before .if1 .left) in omega (arith, c .wide .ensures .0, c .before .before .before .before .before .before .before .pre .1 0 h, c .before .if2 .left))  -- present-only-requires
-    (λ c. let R = c .before .before .before .before .before .before .before .before .args .run .now in let h : 0 < length R = omega (arith, c .before .before .before .before .before .before .if1 .left) in rw (c .only .ensures, c .before .wide .ensures .0) (present-variable R (c .before .before .before .before .present .result) h (c .before .before .if2 .left) (c .before .before .before .before .present .ensures)))  -- present-returns-3
+    (λ c κs. let R = c .before .before .before .before .before .before .before .args .run .now in
+    let h : 0 < length R = omega (arith, c .before .before .before .before .before .if1 .left) in
+    omega (arith, c .wide .ensures .0, c .before .before .before .before .before .before .before .pre .1 0 h, c .before .if2 .left))  -- present-only-requires
+    (λ c. let R = c .before .before .before .before .before .before .before .before .args .run .now in
+    let h : 0 < length R = omega (arith, c .before .before .before .before .before .before .if1 .left) in
+    rw (c .only .ensures, c .before .wide .ensures .0) (present-variable R (c .before .before .before .before .present .result) h
+    (c .before .before .if2 .left) (c .before .before .before .before .present .ensures)))  -- present-returns-3

@@ -37,11 +37,34 @@ pub +union-of-spec : {M : Type 1} → statement M
     (λ c. omega (arith, c .if1 .left))  -- union-of-sub-union-of
     (λ c. let h : 0 < length (c .before .before .args .run .now) = omega (arith, c .if1 .left) in h)  -- union-of-part-union-of-start
     (λ c. search needs)  -- union-of-part-union-of-end
-    (λ c κs. let R = c .before .before .before .args .run .now in let h : 0 < length R = omega (arith, c .before .if1 .left) in (rw (← c .before .before .before .pre .0) (behind-shorter R h), (cells-behind R h (c .before .before .before .pre .1 .0), c .before .before .before .pre .1 .1)))  -- union-of-union-of-requires
-    (λ c. let R = c .before .before .before .before .before .args .run .now in let h : 0 < length R = omega (arith, c .before .before .before .if1 .left) in h)  -- union-of-shared-slice-read-cell
-    (λ c. let R = c .before .before .before .before .before .before .args .run .now in let h : 0 < length R = omega (arith, c .before .before .before .before .if1 .left) in union-function R (c .before .before .before .before .before .before .args .base) (c .before .before .before .before .before .before .args .sets .now) (c .before .before .union-of .result) h (c .if2 .taken) (c .before .before .union-of .ensures))  -- union-of-returns-2
+    (λ c κs. let R = c .before .before .before .args .run .now in let h : 0 < length R = omega (arith, c .before .if1 .left) in (
+      rw (← c .before .before .before .pre .0) (behind-shorter R h),
+      (cells-behind R h (c .before .before .before .pre .1 .0), c .before .before .before .pre .1 .1),
+    ))  -- union-of-union-of-requires
+    (λ c. let R = c .before .before .before .before .before .args .run .now in let h : 0 < length R = omega (arith, c .before .before .before .if1 .left) in
+    h)  -- union-of-shared-slice-read-cell
+    (λ c. let R = c .before .before .before .before .before .before .args .run .now in
+    let h : 0 < length R = omega (arith, c .before .before .before .before .if1 .left) in
+    union-function R (c .before .before .before .before .before .before .args .base) (c .before .before .before .before .before .before .args .sets .now)
+    (c .before .before .union-of .result) h (c .if2 .taken) (c .before .before .union-of .ensures))  -- union-of-returns-2
     (λ c κs. search needs)  -- union-of-wide-requires
-    (λ c. let R = c .before .before .before .before .before .before .before .args .run .now in let h : 0 < length R = omega (arith, c .before .before .before .before .before .if1 .left) in record { fits = omega (arith, c .before .before .before .before .before .before .before .pre .1 .1, c .wide .ensures .1) })  -- union-of-add-at
-    (λ c. let R = c .before .before .before .before .before .before .before .args .run .now in let h : 0 < length R = omega (arith, c .before .before .before .before .before .if1 .left) in record { fits = omega (arith, c .before .before .before .before .before .before .before .pre .1 .1, c .wide .ensures .1) })  -- union-of-mul-result
-    (λ c. let R = c .before .before .before .before .before .before .before .args .run .now in let h : 0 < length R = omega (arith, c .before .before .before .before .before .if1 .left) in omega (arith, c .before .before .before .before .before .before .before .pre .1 .1, c .wide .ensures .0, c .before .before .before .before .before .before .before .pre .1 .0 0 h, c .before .if2 .left))  -- union-of-element-copy-out-result
-    (λ c. let R = c .before .before .before .before .before .before .before .before .args .run .now in let h : 0 < length R = omega (arith, c .before .before .before .before .before .before .if1 .left) in rw (c .before .wide .ensures .0) (union-variable R (c .before .before .before .before .before .before .before .before .args .base) (c .before .before .before .before .before .before .before .before .args .sets .now) (c .before .before .before .before .union-of .result) h (c .before .before .if2 .left) (c .before .before .before .before .union-of .ensures)))  -- union-of-returns-3
+    (λ c. let R = c .before .before .before .before .before .before .before .args .run .now in
+    let h : 0 < length R = omega (arith, c .before .before .before .before .before .if1 .left) in
+    record { fits = omega (arith, c .before .before .before .before .before .before .before .pre .1 .1, c .wide .ensures .1) })  -- union-of-add-at
+    (λ c. let R = c .before .before .before .before .before .before .before .args .run .now in
+    let h : 0 < length R = omega (arith, c .before .before .before .before .before .if1 .left) in
+    record { fits = omega (arith, c .before .before .before .before .before .before .before .pre .1 .1, c .wide .ensures .1) })  -- union-of-mul-result
+    (λ c. let R = c .before .before .before .before .before .before .before .args .run .now in
+    let h : 0 < length R = omega (arith, c .before .before .before .before .before .if1 .left) in
+    omega (
+      arith,
+      c .before .before .before .before .before .before .before .pre .1 .1,
+      c .wide .ensures .0,
+      c .before .before .before .before .before .before .before .pre .1 .0 0 h,
+      c .before .if2 .left,
+    ))  -- union-of-element-copy-out-result
+    (λ c. let R = c .before .before .before .before .before .before .before .before .args .run .now in
+    let h : 0 < length R = omega (arith, c .before .before .before .before .before .before .if1 .left) in
+    rw (c .before .wide .ensures .0) (union-variable R (c .before .before .before .before .before .before .before .before .args .base)
+    (c .before .before .before .before .before .before .before .before .args .sets .now) (c .before .before .before .before .union-of .result) h
+    (c .before .before .if2 .left) (c .before .before .before .before .union-of .ensures)))  -- union-of-returns-3

@@ -47,7 +47,8 @@ pub +are-terms-spec : {M : Type 1} → statement M
     (λ c. search needs)  -- are-terms-part-are-terms-start
     (λ c. search needs)  -- are-terms-part-are-terms-end
     (λ c. search needs)  -- are-terms-sub-are-terms-2
-    (λ c κs. let s = c .before .before .before .before .before .before .before .before in (rw (← s .pre .0, length-take, length-drop) (omega arith), tt))  -- are-terms-are-terms-requires
+    (λ c κs. let s = c .before .before .before .before .before .before .before .before in
+    (rw (← s .pre .0, length-take, length-drop) (omega arith), tt))  -- are-terms-are-terms-requires
     (λ c. λ z.
     let s = c .before .before .before .before .before .before .before .before .before in
     let F = s .args .functions .now in
@@ -66,7 +67,8 @@ pub +are-terms-spec : {M : Type 1} → statement M
     (λ c. search needs)  -- are-terms-part-are-terms-end-2
     (λ c. search needs)  -- are-terms-sub-are-terms-4
     (λ c. search needs)  -- are-terms-add-are-terms
-    (λ c κs. let s = c .before .before .before .before .before .before .before .before .before .before .before .before in (rw (← s .pre .0, length-take, length-drop) (omega arith), tt))  -- are-terms-are-terms-requires-2
+    (λ c κs. let s = c .before .before .before .before .before .before .before .before .before .before .before .before in
+    (rw (← s .pre .0, length-take, length-drop) (omega arith), tt))  -- are-terms-are-terms-requires-2
     (λ c. λ z.
     let s = c .before .before .before .before .before .before .before .before .before .before .before .before .before in
     let F = s .args .functions .now in
