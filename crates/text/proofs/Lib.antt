@@ -1,0 +1,5 @@
+-- Laws of the crate that belong to no one function.
+pub mod Cuts
+pub mod Rooms
+pub mod Tokens
+pub mod Names

@@ -1,0 +1,5 @@
+-- Tokens, names, numbers and lines of scenario texts.
+pub mod Room
+pub mod Line
+pub mod Token
+pub mod Name

@@ -1,0 +1,5 @@
+// Tokens, names, numbers and lines of scenario texts.
+pub mod bytes;
+pub mod cut;
+pub mod name;
+pub mod token;
