@@ -1,0 +1,27 @@
+-- The laws of directories, each module named by its subject.
+pub mod Cuts
+pub mod AtomsFrom
+pub mod BodyWalk
+pub mod Numbering
+pub mod TermCells
+pub mod Counting
+pub mod ShapeVariables
+pub mod ClauseWalk
+pub mod ClausesWalk
+pub mod GoalWalk
+pub mod AcceptedWords
+pub mod PlacedLaws
+pub mod MaskLaws
+pub mod BodyNumbers
+pub mod ListWalk
+pub mod Parts
+pub mod ShapeSearch
+pub mod Links
+pub mod ShapeKept
+pub mod ShapeAdded
+pub mod ShapeAtoms
+pub mod ShapeNumber
+pub mod ShapeNames
+pub mod ShapesWalk
+pub mod Made
+pub mod DirectoryLaws

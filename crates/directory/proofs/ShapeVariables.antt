@@ -1,0 +1,148 @@
+-- The variables of a shape, and of an atom numbered from 0, are the numbers below their count.
+use Prim.Native.Nat.{ℕ, _≤_, _<_}
+use native.Mathlib.Omega.{arith}
+use native.Mathlib.Decide.{ℕ-discrete, decLt}
+use mathlib.Core.Path.{_≡_, refl, sym, ap, _∙_}
+use mathlib.Core.Logic.{_⊎_, inl, inr, _↔_}
+use mathlib.Core.List.{List, [], _∷_, _++_, map, List·Memᴰ, List·Memᴰ·head, List·Memᴰ·tail, List·Memᴰ·cases-cons, List·Memᴰ·append-cases, List·Memᴰ·eq-of-singleton, Memᴰ·append-left, Memᴰ·append-right}
+use lib.ListN.{length, length-append, length-map}
+use Rattle.terms.specs.Term.{Term, Terms, var, app, nil, cons, Occ, Occs}
+use Rattle.terms.specs.Cells.{variables, Atom}
+use Rattle.terms.proofs.Substs.{occ-sub, sub-occ}
+use Rattle.terms.proofs.Binding.{keepss-below}
+use Rattle.program.specs.Shapes.{place, with, met, mets, number, shapeOf}
+use Rattle.program.specs.Within.{after, afters, Numbered, Numbereds}
+use Rattle.program.proofs.ShapeLaws.{place-nth, met-has, map-has}
+use Rattle.program.proofs.OwnShape.{with-old, with-new, place-old, place-new, upTo, length-upTo, has-upTo, upTo-has}
+use Rattle.program.proofs.GoalShape.{meet-with}
+use Rattle.directory.proofs.Cuts.{nth-within}
+use Rattle.directory.proofs.Counting.{all-below-count}
+
+-- whether a number is in a list
+member-decided : (v : ℕ) (l : List ℕ) → Dec (List·Memᴰ v l)
+member-decided v [] = no (λ m. elim m [ ])
+member-decided v (b ∷ l) = go (ℕ-discrete v b) (member-decided v l)
+  where
+    neither : (v ≡ b → ⊥) → (List·Memᴰ v l → ⊥) → (v ≡ b) ⊎ List·Memᴰ v l → ⊥
+    neither ne nm (inl e) = ne e
+    neither ne nm (inr m) = nm m
+
+    go : Dec (v ≡ b) → Dec (List·Memᴰ v l) → Dec (List·Memᴰ v (b ∷ l))
+    go (yes e) d = yes (List·Memᴰ·head e)
+    go (no ne) (yes m) = yes (List·Memᴰ·tail m)
+    go (no ne) (no nm) = no (λ m. neither ne nm (List·Memᴰ·cases-cons m))
+
+-- each number below the length is the place of an element
+abbrev pub Onto : List ℕ → Type 0
+Onto l = (n : ℕ) → n < length l → (x : ℕ) × List·Memᴰ x l × (place ℕ-discrete x l ≡ n)
+
+with-onto : (l : List ℕ) (v : ℕ) → Onto l → Onto (with ℕ-discrete l v)
+with-onto l v o = by (member-decided v l)
+  where
+    last : (List·Memᴰ v l → ⊥) → (n : ℕ) → n < length (l ++ (v ∷ [])) → Dec (n < length l)
+        → (x : ℕ) × List·Memᴰ x (l ++ (v ∷ [])) × (place ℕ-discrete x (l ++ (v ∷ [])) ≡ n)
+    last nm n h (yes less) = let (x, m, e) = o n less in (x, Memᴰ·append-left (v ∷ []) m, place-old ℕ-discrete l (v ∷ []) x m ∙ e)
+    last nm n h (no more) =
+        let e : length l ≡ n = omega (arith, length-append l (v ∷ [])) in
+        (v, Memᴰ·append-right l (List·Memᴰ·head refl), place-new ℕ-discrete l [] v nm ∙ e)
+
+    by : Dec (List·Memᴰ v l) → Onto (with ℕ-discrete l v)
+    by (yes m) = rw (with-old ℕ-discrete l v m) o
+    by (no nm) = rw (with-new ℕ-discrete l v nm) (λ n h. last nm n h (decLt n (length l)))
+
+mutual
+  met-onto : (t : Term) (seen : List ℕ) → Onto seen → Onto (met seen t)
+  met-onto (var v) seen o = with-onto seen v o
+  met-onto (app f ts) seen o = mets-onto ts seen o
+
+  mets-onto : (ts : Terms) (seen : List ℕ) → Onto seen → Onto (mets seen ts)
+  mets-onto nil seen o = o
+  mets-onto (cons t ts) seen o = mets-onto ts (met seen t) (met-onto t seen o)
+
+-- a variable that is met occurs, or was met before
+with-from : (l : List ℕ) (v x : ℕ) → List·Memᴰ x (with ℕ-discrete l v) → List·Memᴰ x l ⊎ (x ≡ v)
+with-from l v x m = by (member-decided v l)
+  where
+    new : List·Memᴰ x l ⊎ List·Memᴰ x (v ∷ []) → List·Memᴰ x l ⊎ (x ≡ v)
+    new (inl q) = inl q
+    new (inr q) = inr (List·Memᴰ·eq-of-singleton q)
+
+    by : Dec (List·Memᴰ v l) → List·Memᴰ x l ⊎ (x ≡ v)
+    by (yes q) = inl (rw (with-old ℕ-discrete l v q) at m)
+    by (no nm) = new (List·Memᴰ·append-cases l (rw (with-new ℕ-discrete l v nm) at m))
+
+mutual
+  met-from : (t : Term) (seen : List ℕ) (x : ℕ) → List·Memᴰ x (met seen t) → List·Memᴰ x seen ⊎ Occ x t
+  met-from (var v) seen x m = with-from seen v x m
+  met-from (app f ts) seen x m = mets-from ts seen x m
+
+  mets-from : (ts : Terms) (seen : List ℕ) (x : ℕ) → List·Memᴰ x (mets seen ts) → List·Memᴰ x seen ⊎ Occs x ts
+  mets-from nil seen x m = inl m
+  mets-from (cons t ts) seen x m = by (mets-from ts (met seen t) x m) (λ q. met-from t seen x q)
+    where
+      first : List·Memᴰ x seen ⊎ Occ x t → List·Memᴰ x seen ⊎ Occs x (cons t ts)
+      first (inl q) = inl q
+      first (inr o) = inr (inl o)
+
+      by : List·Memᴰ x (met seen t) ⊎ Occs x ts → (List·Memᴰ x (met seen t) → List·Memᴰ x seen ⊎ Occ x t) → List·Memᴰ x seen ⊎ Occs x (cons t ts)
+      by (inl q) f = first (f q)
+      by (inr o) f = inr (inr o)
+
+pub met-occurs : (t : Term) (x : ℕ) → List·Memᴰ x (met [] t) → Occ x t
+met-occurs t x m = by (met-from t [] x m)
+  where
+    by : List·Memᴰ x [] ⊎ Occ x t → Occ x t
+    by (inl q) = elim q [ ]
+    by (inr o) = o
+
+-- the variables of a shape are the numbers below the count of the atom's variables
+pub shape-variables : (A : Term) (v : ℕ) → Occ v (shapeOf A) ↔ (v < length (met [] A))
+shape-variables A v = (there, back)
+  where
+    there : Occ v (shapeOf A) → v < length (met [] A)
+    there o =
+        let (x, q, e) = occ-sub A (λ y. var (number A y)) v o in
+        rw e (nth-within (place-nth ℕ-discrete x (met [] A) (met-has A [] x q)))
+
+    back : v < length (met [] A) → Occ v (shapeOf A)
+    back h =
+        let (x, m, e) = met-onto A [] (λ n l. absurd (omega arith)) v h in
+        sub-occ A (λ y. var (number A y)) x v (met-occurs A x m) (sym e)
+
+-- each variable of an atom is at most 15
+pub atom-occ : (P F : List ℕ) (A : Term) (v : ℕ) → Atom P F A → Occ v A → v < variables
+atom-occ P F A v a o = keepss-below F (a .arguments) (a .keeps) v (rw (a .is) at o)
+
+-- "v is at most 15", so that there are at most 16
+pub met-few : (P F : List ℕ) (A : Term) → Atom P F A → length (met [] A) ≤ variables
+met-few P F A a =
+    rw (length-map (upTo variables) (λ x. number A x), length-upTo variables) at
+    (all-below-count (length (met [] A)) (map (number A) (upTo variables)) found)
+  where
+    found : (n : ℕ) → n < length (met [] A) → List·Memᴰ n (map (number A) (upTo variables))
+    found n h =
+        let (x, m, e) = met-onto A [] (λ k l. absurd (omega arith)) n h in
+        rw (← e) (map-has (number A) (upTo variables) x (upTo-has variables x (atom-occ P F A x a (met-occurs A x m))))
+
+-- "variables are numbered from 0 by first appearance"
+mutual
+  pub numbered-met : (t : Term) (seen : ℕ) → Numbered seen t → met (upTo seen) t ≡ upTo (after seen t)
+  numbered-met (var v) seen h = meet-with seen v h
+  numbered-met (app f ts) seen h = numbereds-met ts seen h
+
+  pub numbereds-met : (ts : Terms) (seen : ℕ) → Numbereds seen ts → mets (upTo seen) ts ≡ upTo (afters seen ts)
+  numbereds-met nil seen h = refl
+  numbereds-met (cons t ts) seen h = ap (λ (l : List ℕ). mets l ts) (numbered-met t seen (h .0)) ∙ numbereds-met ts (after seen t) (h .1)
+
+-- the variables of an atom that is numbered from 0 are the numbers below their count
+pub numbered-variables : (A : Term) → Numbered 0 A → (v : ℕ) → Occ v A ↔ (v < length (met [] A))
+numbered-variables A h v = (there, back)
+  where
+    e : met [] A ≡ upTo (after 0 A)
+    e = numbered-met A 0 h
+
+    there : Occ v A → v < length (met [] A)
+    there o = rw (e, length-upTo) (has-upTo (after 0 A) v (rw e at (met-has A [] v o)))
+
+    back : v < length (met [] A) → Occ v A
+    back l = met-occurs A v (rw e (upTo-has (after 0 A) v (rw (e, length-upTo) at l)))
