@@ -60,12 +60,12 @@ fn stands_at(names: &[u8], from: usize, key: &[u8]) -> bool
     requires { ⌜ (length (now key) ≡ nameBytes) × (from + nameBytes ≤ length (now names)) ⌝ }
     ensures { λ r. ⌜ r ≡ same (take nameBytes (drop from (now (names .entry)))) (now (key .entry)) ⌝ }
 {
-    let mut i = 0;
-    while i < NAME_BYTES {
-        if names[from + i] != key[i] {
+    let mut k = 0;
+    while k < NAME_BYTES {
+        if names[from + k] != key[k] {
             return false;
         }
-        i += 1;
+        k += 1;
     }
     true
 }

@@ -10,10 +10,10 @@ use Rattle.text.proofs.name.stands_at.Statement.{statement}
 use Rattle.text.proofs.name.stands_at.Tie as tie
 
 abbrev Inv-loop : tie.InvT-loop
-Inv-loop names from key i₀ i = (i ≤ nameBytes) × (same (take nameBytes (drop from names)) key ≡ sameFrom (take nameBytes (drop from names)) key i)
+Inv-loop names from key k₀ i = (i ≤ nameBytes) × (same (take nameBytes (drop from names)) key ≡ sameFrom (take nameBytes (drop from names)) key i)
 
 abbrev μ-loop : tie.MeasureT-loop
-μ-loop names from key i₀ i = nameBytes - i
+μ-loop names from key k₀ i = nameBytes - i
 
 loop-holds : tie.Need-loop-holds Inv-loop μ-loop
 loop-holds c = (omega arith, refl)
@@ -32,11 +32,11 @@ returns c =
     let l = c .before .before .before .before in
     let a = l .before .args in
     let x = take nameBytes (drop (a .from) (a .names .now)) in
-    let hx : l .loop .i < length x = simp (length-take, length-drop) (omega arith) in
-    sym (l .loop .inv .1 ∙ same-fails x (a .key .now) (l .loop .i) hx (omega arith) (λ e. c .if1 .taken (sym (getD-entry (a .names .now) (a .from) (l .loop .i) (omega arith)) ∙ e)))
+    let hx : l .loop .k < length x = simp (length-take, length-drop) (omega arith) in
+    sym (l .loop .inv .1 ∙ same-fails x (a .key .now) (l .loop .k) hx (omega arith) (λ e. c .if1 .taken (sym (getD-entry (a .names .now) (a .from) (l .loop .k) (omega arith)) ∙ e)))
 
-add-i : tie.Need-add-i Inv-loop μ-loop
-add-i c = omega arith
+add-k : tie.Need-add-k Inv-loop μ-loop
+add-k c = omega arith
 
 loop-less : tie.Need-loop-less Inv-loop μ-loop
 loop-less c = omega arith
@@ -46,14 +46,14 @@ loop-again c =
     let l = c .before .before .before .before in
     let a = l .before .args in
     let x = take nameBytes (drop (a .from) (a .names .now)) in
-    let hx : l .loop .i < length x = simp (length-take, length-drop) (omega arith) in
-    (omega arith, rw add-one (l .loop .inv .1 ∙ same-goes-on x (a .key .now) (l .loop .i) hx (omega arith) (getD-entry (a .names .now) (a .from) (l .loop .i) (omega arith) ∙ c .if1 .left)))
+    let hx : l .loop .k < length x = simp (length-take, length-drop) (omega arith) in
+    (omega arith, rw add-one (l .loop .inv .1 ∙ same-goes-on x (a .key .now) (l .loop .k) hx (omega arith) (getD-entry (a .names .now) (a .from) (l .loop .k) (omega arith) ∙ c .if1 .left)))
 
 returns-2 : tie.Need-returns-2 Inv-loop μ-loop
 returns-2 c =
     let l = c .before in
     let a = l .before .args in
-    sym (l .loop .inv .1 ∙ same-ends (take nameBytes (drop (a .from) (a .names .now))) (a .key .now) (l .loop .i) (omega (arith, length-take nameBytes (drop (a .from) (a .names .now)))) (omega arith))
+    sym (l .loop .inv .1 ∙ same-ends (take nameBytes (drop (a .from) (a .names .now))) (a .key .now) (l .loop .k) (omega (arith, length-take nameBytes (drop (a .from) (a .names .now)))) (omega arith))
 
 pub stands-at-spec : {M : Type 1} → statement M
 stands-at-spec =
@@ -66,7 +66,7 @@ stands-at-spec =
     shared-slice-read-if1
     shared-slice-read-if1-2
     returns
-    add-i
+    add-k
     loop-less
     loop-again
     returns-2)

@@ -1,0 +1,1 @@
+// From an encoded program with names to scenario text.
