@@ -9,6 +9,7 @@ use lib.ListN.{length, take}
 use Rattle.terms.specs.Mask.{Marks}
 use Rattle.program.specs.Program.{Nth, Clause, bodies}
 use Rattle.program.specs.Shapes.{In}
+use Rattle.directory.specs.Layout.{bodyList}
 use Rattle.directory.specs.Said.{said}
 use Rattle.directory.specs.Walked.{Placed}
 use Rattle.directory.specs.Lists.{firstOf, Listed-from}
@@ -111,7 +112,7 @@ loop-again c = let s = c .before .before .before .before .before .before .before
       (λ d q.
           let w = inv .3 d q in
           let few : i < length (d .body) = omega (arith, w .0, less) in
-          let room : 2313 + (c .before .before .before .before .before .before .before .before .before .wide .result + i) < length D = omega (arith, inv .1, inv .2 .size, less, bodies-at-most _ (s .pre .0)) in
+          let room : bodyList + (c .before .before .before .before .before .before .before .before .before .wide .result + i) < length D = omega (arith, inv .1, inv .2 .size, less, bodies-at-most _ (s .pre .0)) in
           (w .0, listed-step (said W) k d q _ D i (w .1) few _ (inv .0) room (c .before .before .before .before .loop .mask) (w .2), before-step (said W) k d q _ D i (w .1) few _ (inv .0) room (c .before .before .before .before .loop .mask) (w .2) (c .body-variables .result) (c .body-variables .ensures))),
       omega (arith, less),
     )

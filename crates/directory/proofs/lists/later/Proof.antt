@@ -10,6 +10,7 @@ use lib.Seq.{drop-length}
 use Rattle.terms.specs.Mask.{Marks}
 use Rattle.program.specs.Program.{Nth, Clause, bodies}
 use Rattle.program.specs.Shapes.{In}
+use Rattle.directory.specs.Layout.{bodyList}
 use Rattle.directory.specs.Said.{said}
 use Rattle.directory.specs.Walked.{Placed}
 use Rattle.directory.specs.Lists.{firstOf, Later}
@@ -103,7 +104,7 @@ loop-again c = let s = c .before .before .before .before .before .before .before
       λ d q.
           let w = inv .3 d q in
           let A = nth-at (d .body) (i - 1) (omega (arith, w .0)) in
-          let room : 2313 + (firstOf (said W) k + (i - 1)) < length D = omega (arith, inv .1, inv .2 .size, inv .0, bodies-at-most _ (s .pre .0)) in
+          let room : bodyList + (firstOf (said W) k + (i - 1)) < length D = omega (arith, inv .1, inv .2 .size, inv .0, bodies-at-most _ (s .pre .0)) in
           let n = c .body-variables .ensures (A .0) (rw (inv .0) (body-number (said W) q (A .1))) in
           let m = later-mask (said W) k d _ D i (i - 1) e (w .1) (A .0) (A .1) room (c .before .before .before .loop .mask) (c .body-variables .result) (w .2) n in
           (omega (arith, w .0), rw (inv .0) (later-more (said W) k d _ D i (i - 1) e (w .1) (A .0) (A .1) room _ m), m),

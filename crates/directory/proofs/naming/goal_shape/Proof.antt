@@ -1,6 +1,7 @@
 -- `goal_shape` meets its contract: the goal's shape is the first. Assumes nothing.
 use mathlib.Core.Path.{_∙_}
 use lib.ListN.{length-set}
+use Rattle.directory.specs.Layout.{shapeStart}
 use Rattle.directory.proofs.ShapesWalk.{goal-at, goal-size, goal-asked, goal-found}
 use borrow.Author.Needs.{needs}
 use Rattle.directory.proofs.naming.goal_shape.Statement.{statement}
@@ -29,7 +30,7 @@ number-requires c κs = let s = c .before .before .before .before .before .befor
     rw (c .before .before .before .wide .ensures .0, c .before .wide2 .ensures .0, goal-at W a _ _ (s .pre .1) (c .before .before .before .before .before .before .before .clear .ensures), goal-size W a _ _ (s .pre .1) (c .before .before .before .before .before .before .before .clear .ensures)) (goal-asked W a _ _ (s .pre .1) (c .before .before .before .before .before .before .before .clear .ensures))
 
 same-length : tie.Need-same-length
-same-length c = c .before .before .number .kept .1 .1 .1 .0 ∙ length-set (c .before .before .before .before .before .before .before .before .before .before .clear .last .0) 4362 0 ∙ c .before .before .before .before .before .before .before .before .before .before .clear .kept .0
+same-length c = c .before .before .number .kept .1 .1 .1 .0 ∙ length-set (c .before .before .before .before .before .before .before .before .before .before .clear .last .0) shapeStart 0 ∙ c .before .before .before .before .before .before .before .before .before .before .clear .kept .0
 
 returns : tie.Need-returns
 returns c = let s = c .before .before .before .before .before .before .before .before .before .before .before .before .before .before in let W = s .args .words .now in let a = s .pre .0 in let q = c .before .before .before .before .before .before .before .before .before .before .clear .ensures in

@@ -7,6 +7,7 @@ use mathlib.Core.Path.{_≡_, sym, _∙_}
 use mathlib.Core.Logic.{⊎-elim}
 use lib.ListN.{length, length-set}
 use Rattle.program.specs.Program.{bodies}
+use Rattle.directory.specs.Layout.{shapeCount, bodyCount}
 use Rattle.directory.specs.Said.{said}
 use Rattle.directory.specs.Walked.{Placed}
 use Rattle.directory.specs.Named.{Shapes-found}
@@ -32,7 +33,7 @@ wide-requires c κs = search needs
 
 loop-holds : tie.Need-loop-holds Inv-loop μ-loop
 loop-holds c = let s = c .before .before .before .before .before .before .before .before in let W = s .args .words .now in let f = c .before .before .before .before .goal-shape .ensures in
-    (c .wide .ensures .0 ∙ f .kept 0 (omega arith) ∙ s .pre .1 .body-count, omega arith, found-placed W (s .pre .0) _ _ (s .pre .1) _ _ f, found-own _ _ _ _ _ f)
+    (c .wide .ensures .0 ∙ f .kept bodyCount (omega arith) ∙ s .pre .1 .body-count, omega arith, found-placed W (s .pre .0) _ _ (s .pre .1) _ _ f, found-own _ _ _ _ _ f)
 
 add-wide : tie.Need-add-wide Inv-loop μ-loop
 add-wide c = omega (arith, c .before .loop .inv .0, c .loop-test .taken, bodies-at-most _ (c .before .before .before .before .before .before .before .before .before .before .pre .0))
@@ -108,7 +109,7 @@ slice-write-dir-2 : tie.Need-slice-write-dir-2 Inv-loop μ-loop
 slice-write-dir-2 c = omega (arith, c .before .before .loop .inv .3 .shaped .size)
 
 same-length : tie.Need-same-length Inv-loop μ-loop
-same-length c = let s = c .before .before .before .before .before .before .before .before .before .before .before in length-set (c .before .before .loop .dir) 4361 (c .narrow2 .result) ∙ c .before .before .loop .inv .3 .shaped .size ∙ sym (s .pre .1 .size)
+same-length c = let s = c .before .before .before .before .before .before .before .before .before .before .before in length-set (c .before .before .loop .dir) shapeCount (c .narrow2 .result) ∙ c .before .before .loop .inv .3 .shaped .size ∙ sym (s .pre .1 .size)
 
 returns : tie.Need-returns Inv-loop μ-loop
 returns c = let s = c .before .before .before .before .before .before .before .before .before .before .before in let W = s .args .words .now in let inv = c .before .before .loop .inv in

@@ -4,7 +4,7 @@ use native.Mathlib.Omega.{arith}
 use mathlib.Core.Path.{_≡_, ap, _∙_}
 use lib.ListN.{length, length-set}
 use Rattle.directory.specs.Said.{said}
-use Rattle.directory.specs.Layout.{dirWords}
+use Rattle.directory.specs.Layout.{dirWords, predicatesStart}
 use Rattle.directory.proofs.AcceptedWords.{said-within, words-short, first-three, predicate-count, function-count, clause-count, predicates-are, functions-within, functions-are, clauses-within, clauses-from, goal-from}
 use Rattle.directory.proofs.PlacedLaws.{goal-comes, placed}
 use borrow.Author.Needs.{needs}
@@ -42,7 +42,7 @@ part-predicates-start : tie.Need-part-predicates-start
 part-predicates-start c = search needs
 
 part-predicates-end : tie.Need-part-predicates-end
-part-predicates-end c = let a = c .before .before .before .before .before .before .before .before .pre .0 in functions-within _ a (3 + c .before .before .before .before .wide .result) (ap (λ (k : ℕ). 3 + k) (c .before .before .before .before .wide .ensures .0 ∙ predicate-count _ a))
+part-predicates-end c = let a = c .before .before .before .before .before .before .before .before .pre .0 in functions-within _ a (predicatesStart + c .before .before .before .before .wide .result) (ap (λ (k : ℕ). predicatesStart + k) (c .before .before .before .before .wide .ensures .0 ∙ predicate-count _ a))
 
 mul-functions : tie.Need-mul-functions
 mul-functions c = search needs
@@ -54,18 +54,18 @@ part-functions-start : tie.Need-part-functions-start
 part-functions-start c = search needs
 
 part-functions-end : tie.Need-part-functions-end
-part-functions-end c = let a = c .before .before .before .before .before .before .before .before .before .pre .0 in let fi : 3 + c .before .before .before .before .before .wide .result ≡ 3 + length (said (c .before .before .before .before .before .before .before .before .before .args .words .now) .predicates) = ap (λ (k : ℕ). 3 + k) (c .before .before .before .before .before .wide .ensures .0 ∙ predicate-count _ a) in clauses-within _ a (3 + c .before .before .before .before .before .wide .result) fi (3 + c .before .before .before .before .before .wide .result + c .before .before .before .wide2 .result) (ap (λ (k : ℕ). 3 + c .before .before .before .before .before .wide .result + k) (c .before .before .before .wide2 .ensures .0 ∙ function-count _ a))
+part-functions-end c = let a = c .before .before .before .before .before .before .before .before .before .pre .0 in let fi : predicatesStart + c .before .before .before .before .before .wide .result ≡ predicatesStart + length (said (c .before .before .before .before .before .before .before .before .before .args .words .now) .predicates) = ap (λ (k : ℕ). predicatesStart + k) (c .before .before .before .before .before .wide .ensures .0 ∙ predicate-count _ a) in clauses-within _ a (predicatesStart + c .before .before .before .before .before .wide .result) fi (predicatesStart + c .before .before .before .before .before .wide .result + c .before .before .before .wide2 .result) (ap (λ (k : ℕ). predicatesStart + c .before .before .before .before .before .wide .result + k) (c .before .before .before .wide2 .ensures .0 ∙ function-count _ a))
 
 clauses-requires : tie.Need-clauses-requires
-clauses-requires c κs = let s = c .before .before .before .before .before .before .before .before .before .before .before in let a = s .pre .0 in let W = s .args .words .now in let f = 3 + c .before .before .before .before .before .before .before .wide .result in let at = f + c .before .before .before .before .before .wide2 .result in
-    let fi : f ≡ 3 + length (said W .predicates) = ap (λ (k : ℕ). 3 + k) (c .before .before .before .before .before .before .before .wide .ensures .0 ∙ predicate-count _ a) in
+clauses-requires c κs = let s = c .before .before .before .before .before .before .before .before .before .before .before in let a = s .pre .0 in let W = s .args .words .now in let f = predicatesStart + c .before .before .before .before .before .before .before .wide .result in let at = f + c .before .before .before .before .before .wide2 .result in
+    let fi : f ≡ predicatesStart + length (said W .predicates) = ap (λ (k : ℕ). predicatesStart + k) (c .before .before .before .before .before .before .before .wide .ensures .0 ∙ predicate-count _ a) in
     let ai : at ≡ f + length (said W .functions) = ap (λ (k : ℕ). f + k) (c .before .before .before .before .before .wide2 .ensures .0 ∙ function-count _ a) in
     let ni : c .before .before .before .wide3 .result ≡ length (said W .clauses) = c .before .before .before .wide3 .ensures .0 ∙ clause-count _ a in
     (rw (predicates-are W a f fi, functions-are W a f fi at ai, ni) (clauses-from W a f fi at ai), words-short W a, s .pre .1, rw ni (said-within W a .clauses-most), clauses-within W a f fi at ai, rw (predicates-are W a f fi) (said-within W a .predicates-most))
 
 goal-requires : tie.Need-goal-requires
-goal-requires c κs = let s = c .before .before .before .before .before .before .before .before .before .before .before .before .before .before .before in let a = s .pre .0 in let W = s .args .words .now in let f = 3 + c .before .before .before .before .before .before .before .before .before .before .before .wide .result in let at = f + c .before .before .before .before .before .before .before .before .before .wide2 .result in
-    let fi : f ≡ 3 + length (said W .predicates) = ap (λ (k : ℕ). 3 + k) (c .before .before .before .before .before .before .before .before .before .before .before .wide .ensures .0 ∙ predicate-count _ a) in
+goal-requires c κs = let s = c .before .before .before .before .before .before .before .before .before .before .before .before .before .before .before in let a = s .pre .0 in let W = s .args .words .now in let f = predicatesStart + c .before .before .before .before .before .before .before .before .before .before .before .wide .result in let at = f + c .before .before .before .before .before .before .before .before .before .wide2 .result in
+    let fi : f ≡ predicatesStart + length (said W .predicates) = ap (λ (k : ℕ). predicatesStart + k) (c .before .before .before .before .before .before .before .before .before .before .before .wide .ensures .0 ∙ predicate-count _ a) in
     let ai : at ≡ f + length (said W .functions) = ap (λ (k : ℕ). f + k) (c .before .before .before .before .before .before .before .before .before .wide2 .ensures .0 ∙ function-count _ a) in
     let ni : c .before .before .before .before .before .before .before .wide3 .result ≡ length (said W .clauses) = c .before .before .before .before .before .before .before .wide3 .ensures .0 ∙ clause-count _ a in
     let w = (rw (predicates-are W a f fi, functions-are W a f fi at ai, ni) at (c .before .before .before .clauses .ensures)) (clauses-from W a f fi at ai) in
@@ -105,8 +105,8 @@ same-length : tie.Need-same-length
 same-length c = simp length-set (c .before .before .before .before .before .before .goal .kept .1 .1 .1 .1 .0 ∙ c .before .before .before .before .before .before .before .before .before .before .clauses .kept .1 .1 .1 .1 .0)
 
 returns : tie.Need-returns
-returns c = let s = c .before .before .before .before .before .before .before .before .before .before .before .before .before .before .before .before .before .before .before .before .before .before in let a = s .pre .0 in let W = s .args .words .now in let f = 3 + c .before .before .before .before .before .before .before .before .before .before .before .before .before .before .before .before .before .before .wide .result in let at = f + c .before .before .before .before .before .before .before .before .before .before .before .before .before .before .before .before .wide2 .result in
-    let fi : f ≡ 3 + length (said W .predicates) = ap (λ (k : ℕ). 3 + k) (c .before .before .before .before .before .before .before .before .before .before .before .before .before .before .before .before .before .before .wide .ensures .0 ∙ predicate-count _ a) in
+returns c = let s = c .before .before .before .before .before .before .before .before .before .before .before .before .before .before .before .before .before .before .before .before .before .before in let a = s .pre .0 in let W = s .args .words .now in let f = predicatesStart + c .before .before .before .before .before .before .before .before .before .before .before .before .before .before .before .before .before .before .wide .result in let at = f + c .before .before .before .before .before .before .before .before .before .before .before .before .before .before .before .before .wide2 .result in
+    let fi : f ≡ predicatesStart + length (said W .predicates) = ap (λ (k : ℕ). predicatesStart + k) (c .before .before .before .before .before .before .before .before .before .before .before .before .before .before .before .before .before .before .wide .ensures .0 ∙ predicate-count _ a) in
     let ai : at ≡ f + length (said W .functions) = ap (λ (k : ℕ). f + k) (c .before .before .before .before .before .before .before .before .before .before .before .before .before .before .before .before .wide2 .ensures .0 ∙ function-count _ a) in
     let ni : c .before .before .before .before .before .before .before .before .before .before .before .before .before .before .wide3 .result ≡ length (said W .clauses) = c .before .before .before .before .before .before .before .before .before .before .before .before .before .before .wide3 .ensures .0 ∙ clause-count _ a in
     let w = (rw (predicates-are W a f fi, functions-are W a f fi at ai, ni) at (c .before .before .before .before .before .before .before .before .before .before .clauses .ensures)) (clauses-from W a f fi at ai) in
