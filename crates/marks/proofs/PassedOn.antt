@@ -54,7 +54,7 @@ module _ {A B : Term} {α β : Subst} {sets : List ℕ} {from P to Q : ℕ} (M N
     λ k. let p = vars .marked (k .0) .1 (k .1) in (k .0, k .2, p, set-of stands vars (k .0) p z .1 (k .3)),
   )
 
-  marked-same : (y : ℕ) → MarkedIn sets from M P to N Q y ↔ Marked A M B N α β y
+  pub marked-same : (y : ℕ) → MarkedIn sets from M P to N Q y ↔ Marked A M B N α β y
   marked-same y = (⊎-map (λ b. b) out, ⊎-map (λ b. b) back)
     where
       out : Has Q y × AllKnownIn sets from M P to y → Occ y B × All (Known A M α) (β y)

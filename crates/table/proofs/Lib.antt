@@ -23,3 +23,4 @@ pub mod Entries
 pub mod RoundEntries
 pub mod Sorting
 pub mod PromiseMet
+pub mod TableSamples

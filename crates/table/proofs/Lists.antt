@@ -119,7 +119,7 @@ module _ {A : Type 0} (same : Discrete A) where
       go (inr m′) = inr (List·Memᴰ·tail m′)
 
   -- whether a list has an element
-  pub member-decided : (a : A) (l : List A) → Dec (List·Memᴰ a l)
+  unfoldable pub member-decided : (a : A) (l : List A) → Dec (List·Memᴰ a l)
   member-decided a [] = no (λ m. elim m [ ])
   member-decided a (b ∷ l) = go (same a b) (member-decided a l)
     where

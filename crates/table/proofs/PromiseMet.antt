@@ -57,6 +57,10 @@ module _ (p : Program) where
   abbrev pub Stops : ℕ → Type 0
   Stops k = Within (At modes p (p .ground) (suc k)) (At modes p (p .ground) k)
 
+  -- a round that computes to the one before is the last
+  pub computed-stops : (k : ℕ) → rows (suc k) ≡ rows k → Stops k
+  computed-stops k e row r = computed-at modes modes-lists p (p .ground) k row .0 (subst (List·Memᴰ row) e (computed-at modes modes-lists p (p .ground) (suc k) row .1 r))
+
   -- by round n the rounds have stopped, or have more than n rows
   pub stop-or-many : (n : ℕ) → ((k : ℕ) × Stops k) ⊎ (n < length (rows n))
   stop-or-many zero = inr (omega arith)
@@ -64,7 +68,7 @@ module _ (p : Program) where
     where
       at : ((k : ℕ) × Stops k) ⊎ (n < length (rows n)) → (rows (suc n) ≡ rows n) ⊎ (length (rows n) < length (rows (suc n))) → ((k : ℕ) × Stops k) ⊎ (suc n < length (rows (suc n)))
       at (inl stops) _ = inl stops
-      at (inr h) (inl e) = inl (n, λ row r. computed-at modes modes-lists p (p .ground) n row .0 (subst (List·Memᴰ row) e (computed-at modes modes-lists p (p .ground) (suc n) row .1 r)))
+      at (inr h) (inl e) = inl (n, computed-stops n e)
       at (inr h) (inr l) = inr (omega arith)
 
   pub many-more : (n : ℕ) → n < length (rows n) → MoreThan p n
@@ -103,11 +107,18 @@ module _ (p : Program) where
           Memᴰ·cast (λ i. record { round = d i; row = e .row })
           (map-has (λ row. record { round = roundOf k row; row = row }) (rows k) (e .row) (computed-at modes modes-lists p (p .ground) k (e .row) .1 r))
 
-  -- where the rounds stop there is a table
-  pub stops-table : (k : ℕ) → Stops k → (entries : List Entry) × TableOf p entries
+  -- in ascending order they are the table, where the rounds stop
+  abbrev pub tableAt : ℕ → List Entry
+  tableAt k = sort (entriesAt k) .0
+
+  pub stops-table : (k : ℕ) → Stops k → TableOf p (tableAt k)
   stops-table k stops =
-      let (entries, s) = sort (entriesAt k) in
-      (entries, rounded-table p k stops entries (s .ascending) (λ e. (λ m. entries-rounded k e .0 (s .has e .0 m), λ h. s .has e .1 (entries-rounded k e .1 h))))
+      let s = sort (entriesAt k) .1 in
+      rounded-table p k stops (tableAt k) (s .ascending) (λ e. (λ m. entries-rounded k e .0 (s .has e .0 m), λ h. s .has e .1 (entries-rounded k e .1 h)))
+
+  -- so the table of a small program is computed
+  pub computed-table : (k : ℕ) (entries : List Entry) → rows (suc k) ≡ rows k → tableAt k ≡ entries → TableOf p entries
+  computed-table k entries e d = subst (TableOf p) d (stops-table k (computed-stops k e))
 
 -- "For all inputs, refused ones too, a public function's promise determines reply and every lent word afterwards": it has a reply and a table
 pub promise-met : (words : List ℕ) (size : ℕ) → (r : Reply) × (t : List ℕ) × Promise words size r t
@@ -118,7 +129,7 @@ promise-met words size = found (faults words) refl
     fits p e entries table (no g) = (_, _, full p e (more-than-length p entries table (roomIn size) .1 (omega arith)) refl refl)
 
     stopped : (p : Program) → faults words ≡ sound p → ((k : ℕ) × Stops p k) ⊎ (roomIn size < length (rows p (roomIn size))) → (r : Reply) × (t : List ℕ) × Promise words size r t
-    stopped p e (inl (k, stops)) = let (entries, table) = stops-table p k stops in fits p e entries table (decLe (length entries) (roomIn size))
+    stopped p e (inl (k, stops)) = fits p e (tableAt p k) (stops-table p k stops) (decLe (length (tableAt p k)) (roomIn size))
     stopped p e (inr h) = (_, _, full p e (many-more p (roomIn size) h) refl refl)
 
     found : (f : Found) → faults words ≡ f → (r : Reply) × (t : List ℕ) × Promise words size r t

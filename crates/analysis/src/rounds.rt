@@ -1,0 +1,338 @@
+// The rounds: each looks at the combinations with a row of the last one, clause by clause and place by place.
+use crate::answers::any_since;
+use crate::calls::first_place;
+use crate::calls::mark_head;
+use crate::joins::last_place;
+use crate::joins::middle_place;
+use crate::meet::first_variables;
+use crate::place::Round;
+use crate::solve::solve;
+use directory::layout::CLAUSE_COUNT;
+use directory::layout::CLAUSE_FIRST;
+use directory::layout::CLAUSE_HEAD;
+use directory::layout::CLAUSE_VARS;
+use directory::layout::GOAL_GROUND;
+use rows::chain::link;
+use rows::store::add;
+use rows::zeros::clear;
+use terms::walk::wide;
+ghost use mathlib.Core.Path.{_≡_};
+ghost use mathlib.Core.List.{List};
+ghost use mathlib.Core.Bool.{true};
+ghost use Prim.Native.Nat.{ℕ, suc, _+_, _≤_, _<_};
+ghost use lib.ListN.{length, replicate};
+ghost use Rattle.marks.specs.Modes.{modes};
+ghost use Rattle.program.specs.Program.{Program};
+ghost use Rattle.rows.specs.Rows.{keysOf};
+ghost use Rattle.rows.specs.MaskSet.{setWords};
+ghost use Rattle.table.specs.NewRows.{NewIn, NewGives};
+ghost use Rattle.table.specs.RoundKeys.{Keyed};
+ghost use Rattle.analysis.specs.Situation.{Setting, Situation, HeadAsked};
+ghost use Rattle.analysis.specs.Steps.{RowsIn, Writable, Stepped};
+ghost use Rattle.analysis.specs.Heads.{HeadMark, Marked};
+ghost use Rattle.analysis.specs.Clauses.{MiddlesAsked, PastPlaces, Places, AtEnd, Scratch, RoundsAsked, Finished};
+
+// The middle places of a clause, whose body atoms are first..last.
+fn middle_places<'a>(
+    words: &'a [u16],
+    dir: &'a [u16],
+    table: &mut [u16],
+    buckets: &mut [u16],
+    heads: &[u16],
+    seen: &mut [u16],
+    answers: &mut [u16],
+    n: usize,
+    at: Round,
+    first: usize,
+    last: usize,
+) -> usize
+    requires { ⌜ MiddlesAsked (now words) (now dir) (now table) (now heads) (at .since) (at .rows) first last × Writable (now table) (now buckets) n (at .room) × (at .rows ≤ n)
+        × (now seen ≡ replicate setWords 0) × (length (now answers) ≡ 4096) ⌝ }
+    ensures { λ r. ⌜ (now (seen .exit) ≡ replicate setWords 0)
+        × ((w : MiddlesAsked (now (words .entry)) (now (dir .entry)) (now (table .entry)) (now (heads .entry)) (at .since) (at .rows) first last)
+        → Stepped (w .situation .p) (keysOf (now (table .entry)) (at .rows)) (at .number) (at .room) n (now (table .entry)) (now (buckets .entry))
+        (PastPlaces (w .situation .p) (keysOf (now (table .entry)) (at .since)) (keysOf (now (table .entry)) (at .rows)) (w .k) (w .middles)) r (now (table .exit)) (now (buckets .exit))) ⌝ }
+{
+    let room = at.room;
+    let mut rows = n;
+    let mut j = first;
+    while j < last {
+        rows = middle_place(
+            words,
+            dir,
+            table,
+            buckets,
+            heads,
+            seen,
+            answers,
+            rows,
+            at,
+            j,
+        );
+        if room < rows {
+            return rows;
+        }
+        j += 1;
+    }
+    rows
+}
+
+// Marks on the head of clause k that result from rows since `since`.
+fn head_marks<'a>(
+    words: &'a [u16],
+    dir: &'a [u16],
+    table: &[u16],
+    heads: &[u16],
+    seen: &mut [u16],
+    answers: &mut [u16],
+    since: usize,
+    before: usize,
+    k: usize,
+    found: &mut [u16],
+) -> bool
+    requires { ⌜ HeadAsked (now words) (now dir) (now table) (now heads) since before k × (length (now found) ≡ setWords)
+        × (now seen ≡ replicate setWords 0) × (length (now answers) ≡ 4096) ⌝ }
+    ensures { λ r. ⌜ (r ≡ true) × (now (seen .exit) ≡ replicate setWords 0)
+        × ((w : HeadAsked (now (words .entry)) (now (dir .entry)) (now (table .entry)) (now (heads .entry)) since before k)
+        → Marked (HeadMark (w .situation .p) (now (table .entry)) since before k (length (w .clause .c .body))) (now (found .entry)) (now (found .exit))) ⌝ }
+{
+    let first = wide(dir[CLAUSE_FIRST + k]);
+    let end = wide(dir[CLAUSE_FIRST + k + 1]);
+    if first == end {
+        return mark_head(words, dir, table, heads, since, k, found, before);
+    }
+    let there = first_variables(wide(dir[CLAUSE_VARS + k]));
+    last_place(
+        words,
+        dir,
+        table,
+        heads,
+        seen,
+        answers,
+        since,
+        before,
+        end - 1,
+        there,
+        found,
+    )
+}
+
+// Rule 3 for clause k. Where a call row is new it goes over all marks on the head again, for the new call's sake.
+fn end_clause<'a>(
+    words: &'a [u16],
+    dir: &'a [u16],
+    table: &mut [u16],
+    buckets: &mut [u16],
+    heads: &[u16],
+    seen: &mut [u16],
+    answers: &mut [u16],
+    found: &mut [u16],
+    n: usize,
+    at: Round,
+    k: usize,
+) -> usize
+    requires { ⌜ HeadAsked (now words) (now dir) (now table) (now heads) (at .since) (at .rows) k × Writable (now table) (now buckets) n (at .room) × (at .rows ≤ n)
+        × Scratch (now seen) (now answers) (now found) ⌝ }
+    ensures { λ r. ⌜ Scratch (now (seen .exit)) (now (answers .exit)) (now (found .exit))
+        × ((w : HeadAsked (now (words .entry)) (now (dir .entry)) (now (table .entry)) (now (heads .entry)) (at .since) (at .rows) k)
+        → Stepped (w .situation .p) (keysOf (now (table .entry)) (at .rows)) (at .number) (at .room) n (now (table .entry)) (now (buckets .entry))
+        (AtEnd (w .situation .p) (keysOf (now (table .entry)) (at .since)) (keysOf (now (table .entry)) (at .rows)) k) r (now (table .exit)) (now (buckets .exit))) ⌝ }
+{
+    let before = at.rows;
+    let room = at.room;
+    let mut since = at.since;
+    let predicate = wide(words[wide(dir[CLAUSE_HEAD + k])]);
+    if any_since(dir, heads, predicate, 0, since) {
+        since = 0;
+    }
+    if !head_marks(
+        words,
+        dir,
+        table,
+        heads,
+        seen,
+        answers,
+        since,
+        before,
+        k,
+        found,
+    ) {
+        return room + 2;
+    }
+    let rows = solve(words, dir, table, buckets, heads, n, at, k, found);
+    clear(found, ((1usize << wide(dir[CLAUSE_VARS + k])) + 15) / 16);
+    rows
+}
+
+// The places of clause k: rows for each of its body atoms.
+fn places<'a>(
+    words: &'a [u16],
+    dir: &'a [u16],
+    table: &mut [u16],
+    buckets: &mut [u16],
+    heads: &[u16],
+    seen: &mut [u16],
+    answers: &mut [u16],
+    n: usize,
+    at: Round,
+    k: usize,
+) -> usize
+    requires { ⌜ HeadAsked (now words) (now dir) (now table) (now heads) (at .since) (at .rows) k × Writable (now table) (now buckets) n (at .room) × (at .rows ≤ n)
+        × (now seen ≡ replicate setWords 0) × (length (now answers) ≡ 4096) ⌝ }
+    ensures { λ r. ⌜ (now (seen .exit) ≡ replicate setWords 0)
+        × ((w : HeadAsked (now (words .entry)) (now (dir .entry)) (now (table .entry)) (now (heads .entry)) (at .since) (at .rows) k)
+        → Stepped (w .situation .p) (keysOf (now (table .entry)) (at .rows)) (at .number) (at .room) n (now (table .entry)) (now (buckets .entry))
+        (Places (w .situation .p) (keysOf (now (table .entry)) (at .since)) (keysOf (now (table .entry)) (at .rows)) k (length (w .clause .c .body))) r (now (table .exit)) (now (buckets .exit))) ⌝ }
+{
+    let room = at.room;
+    let first = wide(dir[CLAUSE_FIRST + k]);
+    let end = wide(dir[CLAUSE_FIRST + k + 1]);
+    if first == end {
+        return n;
+    }
+    let rows = first_place(words, dir, table, buckets, heads, n, at, k, first);
+    if room < rows {
+        return rows;
+    }
+    middle_places(
+        words,
+        dir,
+        table,
+        buckets,
+        heads,
+        seen,
+        answers,
+        rows,
+        at,
+        first,
+        end - 1,
+    )
+}
+
+// All that a round looks at in clause k.
+fn clause<'a>(
+    words: &'a [u16],
+    dir: &'a [u16],
+    table: &mut [u16],
+    buckets: &mut [u16],
+    heads: &[u16],
+    seen: &mut [u16],
+    answers: &mut [u16],
+    found: &mut [u16],
+    n: usize,
+    at: Round,
+    k: usize,
+) -> usize
+    requires { ⌜ HeadAsked (now words) (now dir) (now table) (now heads) (at .since) (at .rows) k × Writable (now table) (now buckets) n (at .room) × (at .rows ≤ n)
+        × Scratch (now seen) (now answers) (now found) ⌝ }
+    ensures { λ r. ⌜ Scratch (now (seen .exit)) (now (answers .exit)) (now (found .exit))
+        × ((w : HeadAsked (now (words .entry)) (now (dir .entry)) (now (table .entry)) (now (heads .entry)) (at .since) (at .rows) k)
+        → Stepped (w .situation .p) (keysOf (now (table .entry)) (at .rows)) (at .number) (at .room) n (now (table .entry)) (now (buckets .entry))
+        (Keyed (w .situation .p) (NewIn modes (w .situation .p) (RowsIn (w .situation .p) (keysOf (now (table .entry)) (at .since))) (RowsIn (w .situation .p) (keysOf (now (table .entry)) (at .rows))) k)) r (now (table .exit)) (now (buckets .exit))) ⌝ }
+{
+    let room = at.room;
+    let rows = places(words, dir, table, buckets, heads, seen, answers, n, at, k);
+    if room < rows {
+        return rows;
+    }
+    end_clause(
+        words,
+        dir,
+        table,
+        buckets,
+        heads,
+        seen,
+        answers,
+        found,
+        rows,
+        at,
+        k,
+    )
+}
+
+// A round.
+fn round<'a>(
+    words: &'a [u16],
+    dir: &'a [u16],
+    table: &mut [u16],
+    buckets: &mut [u16],
+    heads: &[u16],
+    seen: &mut [u16],
+    answers: &mut [u16],
+    found: &mut [u16],
+    at: Round,
+) -> usize
+    requires { ⌜ Situation (now words) (now dir) (now table) (now heads) (at .since) (at .rows) × Writable (now table) (now buckets) (at .rows) (at .room)
+        × Scratch (now seen) (now answers) (now found) ⌝ }
+    ensures { λ r. ⌜ Scratch (now (seen .exit)) (now (answers .exit)) (now (found .exit))
+        × ((w : Situation (now (words .entry)) (now (dir .entry)) (now (table .entry)) (now (heads .entry)) (at .since) (at .rows))
+        → Stepped (w .p) (keysOf (now (table .entry)) (at .rows)) (at .number) (at .room) (at .rows) (now (table .entry)) (now (buckets .entry))
+        (Keyed (w .p) (NewGives modes (w .p) (RowsIn (w .p) (keysOf (now (table .entry)) (at .since))) (RowsIn (w .p) (keysOf (now (table .entry)) (at .rows))))) r (now (table .exit)) (now (buckets .exit))) ⌝ }
+{
+    let room = at.room;
+    let clauses = wide(dir[CLAUSE_COUNT]);
+    let mut rows = at.rows;
+    let mut k = 0;
+    while k < clauses {
+        rows = clause(
+            words,
+            dir,
+            table,
+            buckets,
+            heads,
+            seen,
+            answers,
+            found,
+            rows,
+            at,
+            k,
+        );
+        if room < rows {
+            return rows;
+        }
+        k += 1;
+    }
+    rows
+}
+
+// The rows of the least set, unordered: how many there are, or room + 1 where there are more than the room.
+pub fn rounds<'a>(
+    words: &'a [u16],
+    dir: &'a [u16],
+    table: &mut [u16],
+    buckets: &mut [u16],
+    heads: &mut [u16],
+    seen: &mut [u16],
+    answers: &mut [u16],
+    found: &mut [u16],
+    room: usize,
+) -> usize
+    requires { ⌜ RoundsAsked (now words) (now dir) (now table) (now buckets) (now heads) (now seen) (now answers) (now found) room ⌝ }
+    ensures { λ r. ⌜ ((p : Program) → Setting (now (words .entry)) (now (dir .entry)) p → Finished p room r (now (table .exit))) ⌝ }
+{
+    let mut rows = add(table, buckets, 0, room, 0, 0, dir[GOAL_GROUND]);
+    if room < rows {
+        return rows;
+    }
+    let mut since = 0;
+    let mut number = 1u16;
+    loop {
+        link(table, heads, since, rows);
+        let at = Round {
+            number,
+            since,
+            rows,
+            room,
+        };
+        let next = round(words, dir, table, buckets, heads, seen, answers, found, at);
+        if room < next {
+            return next;
+        }
+        if next == rows {
+            return rows;
+        }
+        since = rows;
+        rows = next;
+        number += 1;
+    }
+}
