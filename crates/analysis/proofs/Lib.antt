@@ -35,3 +35,6 @@ pub mod HeadMarks
 pub mod ClauseRows
 pub mod ClearedMarks
 pub mod RoundByRound
+pub mod Unpacking
+pub mod LastRows
+pub mod Replies

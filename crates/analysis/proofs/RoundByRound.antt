@@ -255,6 +255,8 @@ module _ (words dir : List ℕ) (p : Program) (setting : Setting words dir p) wh
             stops = stop-keys words p (setting .accepted) (s .k) round-kept (subst (Plus (keysOf table′ rows) (Looked p (s .k))) (ap (keysOf table″) e ∙ first-keys) plus);
             keys = rw first-keys round-kept;
             in-rounds = old-rounds;
+            distinct = λ r q a b. g .writable .store .distinct r q (omega arith) (omega arith);
+            fits = omega (arith, g .writable .store .room);
           }
 
       pub rounds-next : (next ≡ rows → ⊥) → Rounding p table″ buckets″ heads′ room rows next (number + 1)

@@ -1,7 +1,7 @@
 -- Rule 3 along the call rows of one shape, newest first: each gives one solution row, and the walk goes on to the row before.
 use Prim.Native.Nat.{ℕ, _+_, _*_, _-_, _≤_, _<_}
 use native.Mathlib.Omega.{arith}
-use mathlib.Core.Path.{_≡_, refl, sym, ap, _∙_}
+use mathlib.Core.Path.{_≡_, refl, sym, ap, subst, _∙_}
 use mathlib.Core.Logic.{_⊎_, inl, inr}
 use mathlib.Core.List.{List, List·Memᴰ, Memᴰ·cast}
 use lib.ListN.{length}
@@ -62,13 +62,13 @@ module _ {table₀ : List ℕ} {since old newest slot : ℕ} (w : ToShape table�
       mask-same : maskAt table (link - 1) ≡ maskAt table₀ (link - 1)
       mask-same = same-mask table₀ table n (g .grew .same-rows) (link - 1) (omega (arith, going-row))
 
-      module _ (q R r : ℕ) (table′ buckets′ : List ℕ) (passes : PassesTo w mask q) (together : Together (maskAt table (link - 1)) mask R)
+      module _ (q own R r : ℕ) (table′ buckets′ : List ℕ) (passes : PassesTo w mask q) (own-is : own ≡ maskAt table (link - 1)) (together : Together own mask R)
           (added : Added table buckets rows room round slot R r table′ buckets′) (l : length table′ ≡ length table) where
         abbrev ks : List ℕ
         ks = keysOf table₀ old
 
         here : Together (maskAt table₀ (link - 1)) mask R
-        here = rw (← mask-same) together
+        here = subst (λ (C : ℕ). Together C mask R) (own-is ∙ mask-same) together
 
         given : Given (w .p) ks (rowKey slot R)
         given =

@@ -66,6 +66,8 @@ pub record Complete (p : Program) (table : List ℕ) (n : ℕ) : Type 0 where
   pub stops : (row : Row ℕ) → At modes p (p .ground) (suc last) row → At modes p (p .ground) last row
   pub keys : RoundKeys p last (keysOf table n)
   pub in-rounds : InRounds p table n
+  pub distinct : (r q : ℕ) → r < n → q < n → keyAt table r ≡ keyAt table q → r ≡ q
+  pub fits : rowSize * n ≤ length table
 
 -- "the result exceeds the room", or it is there
 abbrev pub Finished : Program → ℕ → ℕ → List ℕ → Type 0

@@ -8,3 +8,5 @@ pub mod Solving
 pub mod Joined
 pub mod Calls
 pub mod Clauses
+pub mod Unpacked
+pub mod Finished

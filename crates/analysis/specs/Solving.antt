@@ -1,17 +1,16 @@
 -- Rule 3, a shape and a call row at a time: what is asked of the steps, and what they must add.
-use Prim.Native.Nat.{ℕ, suc, _+_, _≤_, _<_}
+use Prim.Native.Nat.{ℕ, _+_, _≤_, _<_}
 use mathlib.Core.Path.{_≡_}
 use mathlib.Core.List.{List}
 use lib.ListN.{length, getD}
-use Rattle.terms.specs.Term.{Term, Occ}
-use Rattle.marks.specs.Modes.{modes, Kept}
+use Rattle.terms.specs.Term.{Term}
 use Rattle.marks.specs.Pass.{Pass}
 use Rattle.marks.specs.Passing.{VariablesOf}
 use Rattle.program.specs.Program.{Nth, Clause, Program}
 use Rattle.program.specs.Shapes.{shapes}
 use Rattle.rows.specs.Rows.{masks, keysOf}
 use Rattle.rows.specs.MaskSet.{setWords, InSet}
-use Rattle.table.specs.Rules.{Row, call, solution, Reached}
+use Rattle.table.specs.Rules.{Row, call, solution}
 use Rattle.table.specs.Keys.{firstSolution}
 use Rattle.analysis.specs.Steps.{RowsIn}
 use Rattle.analysis.specs.Situation.{Setting, Chains, Unifying}

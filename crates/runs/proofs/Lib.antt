@@ -8,3 +8,4 @@ pub mod LegsRun
 pub mod WrongTable
 pub mod NoClauses
 pub mod AcceptedRuns
+pub mod TableRuns

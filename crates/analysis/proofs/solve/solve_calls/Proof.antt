@@ -56,7 +56,7 @@ returns : tie.Need-returns Inv-loop μ-loop
 returns c = λ w q passes.
     let l = c .before .before .before .before .before .before .before .before .before .before .before .before .before .before .before .pre .2 in
     let g = c .before .before .before .before .before .before .before .before .before .before .before .before .loop .inv .1 _ _ l w q passes in
-    going-full w _ _ _ _ _ l _ _ _ _ g (c .before .before .before .before .before .before .before .before .before .before .before .loop-test .taken) q _ _ _ _ passes (rw (c .before .before .before .before .before .before .before .before .before .mask-at .ensures) at (c .before .before .before .before .before .before .together .ensures)) (c .before .before .before .before .before .add .ensures) (c .before .before .before .before .before .add .kept .0) (c .if1 .taken)
+    going-full w _ _ _ _ _ l _ _ _ _ g (c .before .before .before .before .before .before .before .before .before .before .before .loop-test .taken) q _ _ _ _ _ passes (c .before .before .before .before .before .before .before .before .before .mask-at .ensures) (c .before .before .before .before .before .before .together .ensures) (c .before .before .before .before .before .add .ensures) (c .before .before .before .before .before .add .kept .0) (c .if1 .taken)
 
 before-at-requires : tie.Need-before-at-requires Inv-loop μ-loop
 before-at-requires c κs =
@@ -68,14 +68,14 @@ loop-less : tie.Need-loop-less Inv-loop μ-loop
 loop-less c =
     let ((since, old, asked, b), all) = c .before .before .before .before .before .before .before .before .before .before .before .before .before .before .loop .inv in
     let g = all since old b (asked .to) (asked .q) (asked .passes) in
-    going-falls (asked .to) _ _ _ _ _ b _ _ _ _ g (c .before .before .before .before .before .before .before .before .before .before .before .before .before .loop-test .taken) (asked .q) _ _ _ _ (asked .passes) (rw (c .before .before .before .before .before .before .before .before .before .before .before .mask-at .ensures) at (c .before .before .before .before .before .before .before .before .together .ensures)) (c .before .before .before .before .before .before .before .add .ensures) (c .before .before .before .before .before .before .before .add .kept .0) (c .before .before .if1 .left) _ (c .before-at .ensures)
+    going-falls (asked .to) _ _ _ _ _ b _ _ _ _ g (c .before .before .before .before .before .before .before .before .before .before .before .before .before .loop-test .taken) (asked .q) _ _ _ _ _ (asked .passes) (c .before .before .before .before .before .before .before .before .before .before .before .mask-at .ensures) (c .before .before .before .before .before .before .before .before .together .ensures) (c .before .before .before .before .before .before .before .add .ensures) (c .before .before .before .before .before .before .before .add .kept .0) (c .before .before .if1 .left) _ (c .before-at .ensures)
 
 loop-again : tie.Need-loop-again Inv-loop μ-loop
 loop-again c = (
   c .before .before .before .before .before .before .before .before .before .before .before .before .before .before .loop .inv .0,
   λ since old b w q passes.
       let g = c .before .before .before .before .before .before .before .before .before .before .before .before .before .before .loop .inv .1 since old b w q passes in
-      going-on w _ _ _ _ _ b _ _ _ _ g (c .before .before .before .before .before .before .before .before .before .before .before .before .before .loop-test .taken) q _ _ _ _ passes (rw (c .before .before .before .before .before .before .before .before .before .before .before .mask-at .ensures) at (c .before .before .before .before .before .before .before .before .together .ensures)) (c .before .before .before .before .before .before .before .add .ensures) (c .before .before .before .before .before .before .before .add .kept .0) (c .before .before .if1 .left) _ (c .before-at .ensures),
+      going-on w _ _ _ _ _ b _ _ _ _ g (c .before .before .before .before .before .before .before .before .before .before .before .before .before .loop-test .taken) q _ _ _ _ _ passes (c .before .before .before .before .before .before .before .before .before .before .before .mask-at .ensures) (c .before .before .before .before .before .before .before .before .together .ensures) (c .before .before .before .before .before .before .before .add .ensures) (c .before .before .before .before .before .before .before .add .kept .0) (c .before .before .if1 .left) _ (c .before-at .ensures),
 )
 
 same-length-3 : tie.Need-same-length-3 Inv-loop μ-loop

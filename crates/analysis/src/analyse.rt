@@ -1,0 +1,92 @@
+// The analysis of an encoded program: its table, or why there is none.
+use crate::rounds::rounds;
+use crate::unpack::unpack;
+use directory::directory;
+use program::reply::ACCEPTED;
+use program::reply::NO_ROOM;
+use program::reply::Reply;
+use program::scan::scan;
+use rows::order::sort;
+use rows::row::MAX_ROWS;
+use rows::row::ROW_SIZE;
+use rows::zeros::zero;
+ghost use mathlib.Core.Path.{_≡_};
+ghost use lib.ListN.{length};
+ghost use Rattle.program.specs.Program.{Program};
+ghost use Rattle.program.specs.Faults.{faults, sound};
+ghost use Rattle.table.specs.Table.{roomIn, Promise};
+ghost use Rattle.analysis.specs.Finished.{FinishAsked, InTable};
+
+// "The room in rows is the length over five, rounded down, but at most 4,096."
+fn room_in(size: usize) -> usize
+    ensures { λ r. ⌜ r ≡ roomIn size ⌝ }
+{
+    let rows = size / ROW_SIZE;
+    if rows < MAX_ROWS {
+        return rows;
+    }
+    MAX_ROWS
+}
+
+// "Rows stand in ascending order of their five words." "Words after the last row are 0."
+fn finish(words: &[u16], dir: &[u16], table: &mut [u16], rows: usize)
+    requires { ⌜ FinishAsked (now words) (now dir) (now table) rows ⌝ }
+    ensures { λ _. ⌜ ((w : FinishAsked (now (words .entry)) (now (dir .entry)) (now (table .entry)) rows) → InTable (w .p) rows (length (now (table .entry))) (now (table .exit))) ⌝ }
+{
+    sort(table, rows);
+    unpack(words, dir, table, rows);
+    let end = ROW_SIZE * rows;
+    zero(&mut table[end..]);
+}
+
+// The table of an accepted program.
+fn accepted(words: &[u16], table: &mut [u16]) -> Reply
+    requires { ⌜ ((p : Program) × (faults (now words) ≡ sound p)) ⌝ }
+    ensures { λ r. ⌜ Promise (now (words .entry)) (length (now (table .entry))) r (now (table .exit)) ⌝ }
+{
+    let mut dir = [0u16; 9550];
+    let mut buckets = [0u16; 4096];
+    let mut heads = [0u16; 6144];
+    let mut seen = [0u16; 4096];
+    let mut answers = [0u16; 4096];
+    let mut found = [0u16; 4096];
+    let room = room_in(table.len());
+    directory(words, &mut dir);
+    let rows = rounds(
+        words,
+        &dir,
+        table,
+        &mut buckets,
+        &mut heads,
+        &mut seen,
+        &mut answers,
+        &mut found,
+        room,
+    );
+    if room < rows {
+        zero(table);
+        return Reply {
+            number: NO_ROOM,
+            place: room,
+            count: 0,
+        };
+    }
+    finish(words, &dir, table, rows);
+    Reply {
+        number: ACCEPTED,
+        place: 0,
+        count: rows,
+    }
+}
+
+// "The table is the least set of rows closed under the mode rules": in the lent table, or a refusal with zeros.
+pub fn analyse(words: &[u16], table: &mut [u16]) -> Reply
+    ensures { λ r. ⌜ Promise (now (words .entry)) (length (now (table .entry))) r (now (table .exit)) ⌝ }
+{
+    let reply = scan(words);
+    if reply.number == ACCEPTED {
+        return accepted(words, table);
+    }
+    zero(table);
+    reply
+}

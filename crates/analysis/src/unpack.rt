@@ -1,0 +1,78 @@
+// Rows as they stand at the end: round, kind, a, b, mask.
+use crate::meet::narrow;
+use crate::place::CONTS;
+use crate::place::SOLUTIONS;
+use directory::layout::CLAUSE_FIRST;
+use rows::row::ROW_SIZE;
+use rows::row::mask_at;
+use rows::row::slot_at;
+use terms::walk::wide;
+ghost use mathlib.Core.Path.{_≡_};
+ghost use mathlib.Core.List.{_++_};
+ghost use Prim.Native.Nat.{_+_, _*_, _<_};
+ghost use lib.ListN.{length, drop};
+ghost use Rattle.rows.specs.Rows.{rowSize};
+ghost use Rattle.table.specs.Table.{tableWords};
+ghost use Rattle.analysis.specs.Unpacked.{withWords, withRow, Stands, Packed, Belongs};
+
+const CALL: u16 = 1;
+
+const CONT: u16 = 2;
+
+const SOLUTION: u16 = 3;
+
+// The clause, from 0, of body atom j.
+fn clause_of(words: &[u16], dir: &[u16], j: usize) -> usize
+    requires { ⌜ Belongs (now words) (now dir) j ⌝ }
+    ensures { λ k. ⌜ ((w : Belongs (now (words .entry)) (now (dir .entry)) j) → k ≡ w .body .k) ⌝ }
+{
+    let mut k = 0;
+    while wide(dir[CLAUSE_FIRST + k + 1]) <= j {
+        k += 1;
+    }
+    k
+}
+
+// Writes all of row r but its round.
+fn write(table: &mut [u16], r: usize, kind: u16, a: u16, b: u16, mask: u16)
+    requires { ⌜ rowSize * r + 4 < length (now table) ⌝ }
+    ensures { λ _. ⌜ now (table .exit) ≡ withWords (now (table .entry)) r kind a b mask ⌝ }
+{
+    let at = ROW_SIZE * r;
+    table[at + 1] = kind;
+    table[at + 2] = a;
+    table[at + 3] = b;
+    table[at + 4] = mask;
+}
+
+// Row r, from its slot and its mask.
+fn unpack_row(words: &[u16], dir: &[u16], table: &mut [u16], r: usize)
+    requires { ⌜ Stands (now words) (now dir) (now table) r × (rowSize * r + 4 < length (now table)) ⌝ }
+    ensures { λ _. ⌜ ((w : Stands (now (words .entry)) (now (dir .entry)) (now (table .entry)) r) → now (table .exit) ≡ withRow (now (table .entry)) r (w .row)) ⌝ }
+{
+    let slot = wide(slot_at(table, r));
+    let mask = mask_at(table, r);
+    if slot < CONTS {
+        write(table, r, CALL, narrow(slot), 0, mask);
+    } else if slot < SOLUTIONS {
+        let j = slot - CONTS;
+        let k = clause_of(words, dir, j);
+        let place = j - wide(dir[CLAUSE_FIRST + k]);
+        write(table, r, CONT, narrow(k + 1), narrow(place + 1), mask);
+    } else {
+        write(table, r, SOLUTION, narrow(slot - SOLUTIONS), 0, mask);
+    }
+}
+
+// The first n rows.
+pub fn unpack(words: &[u16], dir: &[u16], table: &mut [u16], n: usize)
+    requires { ⌜ Packed (now words) (now dir) (now table) n ⌝ }
+    ensures { λ _. ⌜ ((w : Packed (now (words .entry)) (now (dir .entry)) (now (table .entry)) n)
+        → now (table .exit) ≡ tableWords (w .entries) ++ drop (rowSize * n) (now (table .entry))) ⌝ }
+{
+    let mut r = 0;
+    while r < n {
+        unpack_row(words, dir, table, r);
+        r += 1;
+    }
+}
