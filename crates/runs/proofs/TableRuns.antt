@@ -1,10 +1,10 @@
 -- Demand 3 for the words that the analysis leaves: the rows that stand in an accepted table cover every run, and "ground" can be read off them.
 use Prim.Native.Nat.{ℕ}
 use native.Mathlib.Omega.{arith}
-use mathlib.Core.Path.{_≡_, refl}
+use mathlib.Core.Path.{_≡_, refl, sym, ap, _∙_}
 use mathlib.Core.Logic.{_⊎_, inl, inr}
-use mathlib.Core.List.{List, [], _∷_, _++_, List·Memᴰ, List·Memᴰ·cases-cons, List·Memᴰ·not-nil}
-use lib.ListN.{length, take, drop}
+use mathlib.Core.List.{List, [], _∷_, _++_, List·Memᴰ, List·Memᴰ·head, List·Memᴰ·tail, List·Memᴰ·cases-cons, List·Memᴰ·not-nil}
+use lib.ListN.{length, getD, take, drop}
 use Rattle.marks.specs.Modes.{modes}
 use Rattle.program.specs.Program.{Program}
 use Rattle.program.specs.Reply.{accepted, noRoom}
@@ -40,11 +40,39 @@ entry-stands (f ∷ entries) rest e m = first (λ h. entry-stands entries rest e
     first behind (inl d) = inl (rw d (row-first (f .round) (f .row) (tableWords entries) rest))
     first behind (inr m′) = inr (rw (rows-behind (f .round) (f .row) (tableWords entries) rest) (behind m′))
 
--- a row of the least set stands in the table
+nth : (i : ℕ) {vs ws : List ℕ} → vs ≡ ws → getD vs i 0 ≡ getD ws i 0
+nth i e = ap (λ (l : List ℕ). getD l i 0) e
+
+-- four words are one row's
+rows-same : (row row′ : Row ℕ) → rowWords row ≡ rowWords row′ → row ≡ row′
+rows-same (call s M) (call s′ M′) e = let a : s ≡ s′ = nth 1 e in let b : M ≡ M′ = nth 3 e in cc
+rows-same (cont n i M) (cont n′ i′ M′) e = let a : n ≡ n′ = nth 1 e in let b : i ≡ i′ = nth 2 e in let d : M ≡ M′ = nth 3 e in cc
+rows-same (solution s M) (solution s′ M′) e = let a : s ≡ s′ = nth 1 e in let b : M ≡ M′ = nth 3 e in cc
+rows-same (call s M) (cont n i M′) e = let a : _≡_ {A = ℕ} 1 2 = nth 0 e in absurd (omega arith)
+rows-same (call s M) (solution s′ M′) e = let a : _≡_ {A = ℕ} 1 3 = nth 0 e in absurd (omega arith)
+rows-same (cont n i M) (call s M′) e = let a : _≡_ {A = ℕ} 2 1 = nth 0 e in absurd (omega arith)
+rows-same (cont n i M) (solution s M′) e = let a : _≡_ {A = ℕ} 2 3 = nth 0 e in absurd (omega arith)
+rows-same (solution s M) (call s′ M′) e = let a : _≡_ {A = ℕ} 3 1 = nth 0 e in absurd (omega arith)
+rows-same (solution s M) (cont n i M′) e = let a : _≡_ {A = ℕ} 3 2 = nth 0 e in absurd (omega arith)
+
+-- what stands in the words of the entries is the row of one
+pub stands-entry : (entries : List Entry) (rest : List ℕ) (row : Row ℕ) → StandsIn (length entries) (tableWords entries ++ rest) row
+    → (e : Entry) × List·Memᴰ e entries × (e .row ≡ row)
+stands-entry [] rest row s = absurd s
+stands-entry (f ∷ entries) rest row (inl d) = (f, List·Memᴰ·head refl, rows-same (f .row) row (sym (row-first (f .round) (f .row) (tableWords entries) rest) ∙ d))
+stands-entry (f ∷ entries) rest row (inr s) =
+    let (e, m, d) = stands-entry entries rest row (rw (rows-behind (f .round) (f .row) (tableWords entries) rest) at s) in (e, List·Memᴰ·tail m, d)
+
+-- a row of the least set stands in the table, and no other
 least-stands : (p : Program) (entries : List Entry) (rest : List ℕ) → TableOf p entries → (row : Row ℕ) → Least modes p (p .ground) row
     → StandsIn (length entries) (tableWords entries ++ rest) row
 least-stands p entries rest t row l =
     let (k, f) = appears-first p row (least-appears modes p (p .ground) row .0 l) in entry-stands entries rest (record { round = k; row = row }) (t .all k row f)
+
+stands-least : (p : Program) (entries : List Entry) (rest : List ℕ) → TableOf p entries → (row : Row ℕ) → StandsIn (length entries) (tableWords entries ++ rest) row
+    → Least modes p (p .ground) row
+stands-least p entries rest t row s =
+    let (e, m, d) = stands-entry entries rest row s in rw (← d) (least-appears modes p (p .ground) (e .row) .1 (e .round, t .only e m .0))
 
 -- what the analysis promises is to be trusted
 pub promise-trusted : (words : List ℕ) (size : ℕ) (reply : Reply) (table : List ℕ) → Promise words size reply table → reply .number ≡ accepted → Trusted words reply table
@@ -54,9 +82,13 @@ promise-trusted words size reply table (unmarked p f h e z) d = absurd (neither-
 promise-trusted words size reply table (listed p entries f t l e z) d = record {
   p = p;
   says = f;
+  rows = λ row. (from row, there row);
   covers = covers-within modes p (p .ground) (Least modes p (p .ground)) (StandsIn (reply .count) table) there (accepted-covers-runs words p f);
   ground-at-calls = λ s S at v occ every. accepted-ground-at-calls words p f s S at v occ (λ M least. every M (there (call s M) least));
 }
   where
     there : (row : Row ℕ) → Least modes p (p .ground) row → StandsIn (reply .count) table row
     there row least = rw e (rw z (least-stands p entries _ t row least))
+
+    from : (row : Row ℕ) → StandsIn (reply .count) table row → Least modes p (p .ground) row
+    from row stands = stands-least p entries _ t row (rw z at (rw e at stands))

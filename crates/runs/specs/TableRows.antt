@@ -1,7 +1,7 @@
 -- The rows that stand in the words of a table, and what an accepted table is trusted for.
 use Prim.Native.Nat.{ℕ, zero, suc}
 use mathlib.Core.Path.{_≡_}
-use mathlib.Core.Logic.{_⊎_}
+use mathlib.Core.Logic.{_⊎_, _↔_}
 use mathlib.Core.List.{List}
 use lib.ListN.{take, drop}
 use Rattle.terms.specs.Term.{Term, Subst, sub, Occ, Ground}
@@ -12,6 +12,7 @@ use Rattle.program.specs.Shapes.{shapes}
 use Rattle.program.specs.Faults.{faults, sound}
 use Rattle.program.specs.declared.reply.Reply.{Reply}
 use Rattle.table.specs.Rules.{Row, call}
+use Rattle.table.specs.Rounds.{Least}
 use Rattle.table.specs.Table.{rowWords}
 use Rattle.runs.specs.Run.{Called}
 use Rattle.runs.specs.Cover.{CoversRuns}
@@ -22,10 +23,12 @@ StandsIn zero words row = ⊥
 StandsIn (suc n) words row = (take 4 (drop 1 words) ≡ rowWords row) ⊎ StandsIn n (drop 5 words) row
 
 -- what is promised to the customer of every accepted reply
-pub record Trusted (words : List ℕ) (reply : Reply) (table : List ℕ) : Type 0 where
+pub record Trusted (words : List ℕ) (reply : Reply) (table : List ℕ) : Type 1 where
   pub p : Program
   pub says : faults words ≡ sound p
-  -- the rows in the table cover every run
+  -- the rows in the table are those of the least set
+  pub rows : (row : Row ℕ) → StandsIn (reply .count) table row ↔ Least modes p (p .ground) row
+  -- they cover every run
   pub covers : CoversRuns modes p (p .ground) (StandsIn (reply .count) table)
   -- a variable of a shape that every call row of that shape in the table marks has a ground term at every call of that shape
   pub ground-at-calls : (s : ℕ) (S : Term) → Nth (shapes p) s S → (v : ℕ) → Occ v S → ((M : ℕ) → StandsIn (reply .count) table (call s M) → Has M v)
