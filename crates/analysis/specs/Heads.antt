@@ -37,7 +37,7 @@ pub record Marked (P : ℕ → Type 0) (found found′ : List ℕ) : Type 0 wher
 -- the solution rows that the marks in the set give, "for *every* call row whose shape unifies with H"
 pub data Solved (p : Program) (table : List ℕ) (rows k : ℕ) (found : List ℕ) : Row ℕ → Type 0 where
   solved : {c : Clause} {q s C R : ℕ} {S : Term} → Nth (p .clauses) k c → q < masks → InSet found q → Nth (shapes p) s S
-    → RowsIn p (keysOf table rows) (call s C) → Pass (c .head) q S C R → Solved p table rows k found (solution s R)
+      → RowsIn p (keysOf table rows) (call s C) → Pass (c .head) q S C R → Solved p table rows k found (solution s R)
 
 -- the set has marks that result on the head of clause k, and none but of its variables
 pub record SolveAsked (words dir table heads found : List ℕ) (since rows k : ℕ) : Type 0 where

@@ -53,6 +53,6 @@ Stepped p ks round room n table buckets Must n′ table′ buckets′ =
 -- the rows that marks N, with which the rules come past the first i body atoms of clause k, give for the next atom
 pub data Emitted (p : Program) (k i N : ℕ) : Row ℕ → Type 0 where
   emitted-call : {c : Clause} {A : Term} {R : ℕ} → Nth (p .clauses) k c → Nth (c .body) i A → Renumbered A (number A) N R
-    → Emitted p k i N (call (shapeNumber p A) R)
+      → Emitted p k i N (call (shapeNumber p A) R)
   emitted-cont : {c : Clause} {A : Term} {R : ℕ} → Nth (p .clauses) k c → Nth (c .body) i A → Kept (Listed c i) N R
-    → Emitted p k i N (cont (suc k) (suc i) R)
+      → Emitted p k i N (cont (suc k) (suc i) R)
