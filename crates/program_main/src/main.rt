@@ -1,8 +1,19 @@
-// Reads encoded programs from standard input, one to a line, and writes the reply to each: number and place.
+// Reads encoded programs from standard input, one to a line, and writes the reply to each, number and place; behind an accepted one its shapes,
+// each with the number of its variables and its cells.
+use directory::directory;
+use directory::layout::SHAPE_CELLS;
+use directory::layout::SHAPE_COUNT;
+use directory::layout::SHAPE_START;
+use directory::layout::SHAPE_VARS;
 use libc::STDIN_FILENO;
 use libc::STDOUT_FILENO;
-ghost use Prim.Native.Nat.{_≤_};
+use program::reply::ACCEPTED;
+use terms::walk::wide;
+ghost use Prim.Native.Nat.{_≤_, _<_};
+ghost use mathlib.Core.Path.{_≡_};
 ghost use lib.ListN.{length};
+ghost use Rattle.program.specs.Program.{Program};
+ghost use Rattle.program.specs.Faults.{faults, sound};
 
 const MOST: usize = 65535;
 
@@ -18,10 +29,56 @@ fn print(n: usize, end: &[u8]) {
     io::write_all(STDOUT_FILENO, end);
 }
 
+fn put_words(words: &[u16]) {
+    let mut i = 0;
+    while i < words.len() {
+        print(wide(words[i]), b" ");
+        i += 1;
+    }
+}
+
+fn least(a: usize, b: usize) -> usize
+    ensures { λ r. ⌜ (r ≤ a) × (r ≤ b) ⌝ }
+{
+    if a < b {
+        return a;
+    }
+    b
+}
+
+fn shape(dir: &[u16], s: usize)
+    requires { ⌜ (length (now dir) ≡ 9550) × (s < 1025) ⌝ }
+{
+    let from = least(wide(dir[SHAPE_START + s]), 2048);
+    let to = least(wide(dir[SHAPE_START + s + 1]), 2048);
+    io::write_all(STDOUT_FILENO, b"| ");
+    print(wide(dir[SHAPE_VARS + s]), b" ");
+    if from <= to {
+        put_words(&dir[SHAPE_CELLS + from..SHAPE_CELLS + to]);
+    }
+}
+
+fn shapes(words: &[u16])
+    requires { ⌜ ((p : Program) × (faults (now words) ≡ sound p)) ⌝ }
+{
+    let mut dir = [0u16; 9550];
+    directory(words, &mut dir);
+    let count = least(wide(dir[SHAPE_COUNT]), 1025);
+    let mut s = 0;
+    while s < count {
+        shape(&dir, s);
+        s += 1;
+    }
+}
+
 fn reply(words: &[u16]) {
     let r = program::scan::scan(words);
     print(r.number as usize, b" ");
-    print(r.place, b"\n");
+    print(r.place, b" ");
+    if r.number == ACCEPTED {
+        shapes(words);
+    }
+    io::write_all(STDOUT_FILENO, b"\n");
 }
 
 // The number so far with one more digit; a number too large for a word stays the largest.
