@@ -1,10 +1,10 @@
 -- Demand 3 for the words that the analysis leaves: the rows that stand in an accepted table cover every run, and "ground" can be read off them.
 use Prim.Native.Nat.{ℕ}
 use native.Mathlib.Omega.{arith}
-use mathlib.Core.Path.{_≡_, refl, sym, ap, _∙_}
+use mathlib.Core.Path.{_≡_, refl, sym, _∙_}
 use mathlib.Core.Logic.{_⊎_, inl, inr}
 use mathlib.Core.List.{List, [], _∷_, _++_, List·Memᴰ, List·Memᴰ·head, List·Memᴰ·tail, List·Memᴰ·cases-cons, List·Memᴰ·not-nil}
-use lib.ListN.{length, getD, take, drop}
+use lib.ListN.{length, take, drop}
 use Rattle.marks.specs.Modes.{modes}
 use Rattle.program.specs.Program.{Program}
 use Rattle.program.specs.Reply.{accepted, noRoom}
@@ -14,6 +14,7 @@ use Rattle.table.specs.Rounds.{Least}
 use Rattle.table.specs.Table.{Entry, rowWords, tableWords, TableOf, Promise, faulty, listed, full, unmarked}
 use Rattle.table.proofs.FaultNumbers.{fault-number}
 use Rattle.table.proofs.RoundLaws.{least-appears}
+use Rattle.table.proofs.Sorting.{row-words-same}
 use Rattle.table.proofs.Promise.{appears-first, neither-never}
 use Rattle.runs.specs.TableRows.{StandsIn, Trusted}
 use Rattle.runs.proofs.TableCovers.{covers-within}
@@ -40,26 +41,11 @@ entry-stands (f ∷ entries) rest e m = first (λ h. entry-stands entries rest e
     first behind (inl d) = inl (rw d (row-first (f .round) (f .row) (tableWords entries) rest))
     first behind (inr m′) = inr (rw (rows-behind (f .round) (f .row) (tableWords entries) rest) (behind m′))
 
-nth : (i : ℕ) {vs ws : List ℕ} → vs ≡ ws → getD vs i 0 ≡ getD ws i 0
-nth i e = ap (λ (l : List ℕ). getD l i 0) e
-
--- four words are one row's
-rows-same : (row row′ : Row ℕ) → rowWords row ≡ rowWords row′ → row ≡ row′
-rows-same (call s M) (call s′ M′) e = let a : s ≡ s′ = nth 1 e in let b : M ≡ M′ = nth 3 e in cc
-rows-same (cont n i M) (cont n′ i′ M′) e = let a : n ≡ n′ = nth 1 e in let b : i ≡ i′ = nth 2 e in let d : M ≡ M′ = nth 3 e in cc
-rows-same (solution s M) (solution s′ M′) e = let a : s ≡ s′ = nth 1 e in let b : M ≡ M′ = nth 3 e in cc
-rows-same (call s M) (cont n i M′) e = let a : _≡_ {A = ℕ} 1 2 = nth 0 e in absurd (omega arith)
-rows-same (call s M) (solution s′ M′) e = let a : _≡_ {A = ℕ} 1 3 = nth 0 e in absurd (omega arith)
-rows-same (cont n i M) (call s M′) e = let a : _≡_ {A = ℕ} 2 1 = nth 0 e in absurd (omega arith)
-rows-same (cont n i M) (solution s M′) e = let a : _≡_ {A = ℕ} 2 3 = nth 0 e in absurd (omega arith)
-rows-same (solution s M) (call s′ M′) e = let a : _≡_ {A = ℕ} 3 1 = nth 0 e in absurd (omega arith)
-rows-same (solution s M) (cont n i M′) e = let a : _≡_ {A = ℕ} 3 2 = nth 0 e in absurd (omega arith)
-
 -- what stands in the words of the entries is the row of one
 pub stands-entry : (entries : List Entry) (rest : List ℕ) (row : Row ℕ) → StandsIn (length entries) (tableWords entries ++ rest) row
     → (e : Entry) × List·Memᴰ e entries × (e .row ≡ row)
 stands-entry [] rest row s = absurd s
-stands-entry (f ∷ entries) rest row (inl d) = (f, List·Memᴰ·head refl, rows-same (f .row) row (sym (row-first (f .round) (f .row) (tableWords entries) rest) ∙ d))
+stands-entry (f ∷ entries) rest row (inl d) = (f, List·Memᴰ·head refl, row-words-same (f .row) row (sym (row-first (f .round) (f .row) (tableWords entries) rest) ∙ d))
 stands-entry (f ∷ entries) rest row (inr s) =
     let (e, m, d) = stands-entry entries rest row (rw (rows-behind (f .round) (f .row) (tableWords entries) rest) at s) in (e, List·Memᴰ·tail m, d)
 
