@@ -19,16 +19,16 @@ use Rattle.table.specs.NewRows.{NewGoesOn, NewIn, NewGives}
 use Rattle.table.specs.RoundKeys.{Keyed}
 use Rattle.table.proofs.Lists.{nth-below, below-nth}
 use Rattle.table.proofs.Looking.{by-places, by-clauses}
-use Rattle.analysis.specs.Steps.{RowsIn, Writable, Grew, Stepped}
-use Rattle.analysis.specs.Situation.{Situation, BodyOf, FirstAsked, HeadAsked, LastAsked}
-use Rattle.analysis.specs.Answers.{PredicateAsked}
-use Rattle.analysis.specs.Heads.{HeadMark, Marked}
+use Rattle.steps.specs.Steps.{RowsIn, Writable, Grew, Stepped}
+use Rattle.steps.specs.Situation.{Situation, BodyOf, FirstAsked, HeadAsked, LastAsked}
+use Rattle.steps.specs.Since.{PredicateAsked}
+use Rattle.steps.specs.Heads.{HeadMark, Marked}
 use Rattle.analysis.specs.Clauses.{MiddlesAsked, PastPlaces, Places, AtEnd}
-use Rattle.analysis.proofs.Meetings.{setting-within}
-use Rattle.analysis.proofs.Bodies.{first-body, head-is-atom}
-use Rattle.analysis.proofs.BodyAtoms.{some-cells, predicate-there}
-use Rattle.analysis.proofs.Stepping.{keys-stay, grew-none, stepped-then, stepped-must}
-use Rattle.analysis.proofs.SlotRows.{chains-stay}
+use Rattle.steps.proofs.Meetings.{setting-within}
+use Rattle.steps.proofs.Bodies.{first-body, head-is-atom}
+use Rattle.steps.proofs.BodyAtoms.{some-cells, predicate-there}
+use Rattle.steps.proofs.Stepping.{keys-stay, grew-none, stepped-then, stepped-must}
+use Rattle.steps.proofs.SlotRows.{chains-stay}
 use Rattle.analysis.proofs.MiddlePlaces.{below-one-more}
 
 module _ (words dir table heads : List ℕ) (since rows k : ℕ) (w : HeadAsked words dir table heads since rows k) where

@@ -30,15 +30,15 @@ use Rattle.table.specs.RoundKeys.{Keyed}
 use Rattle.table.proofs.Lists.{nth-below}
 use Rattle.table.proofs.NewRows.{new-reached}
 use Rattle.table.proofs.ShapeVariables.{marks-below, atom-variables}
-use Rattle.analysis.specs.Steps.{RowsIn}
-use Rattle.analysis.specs.Situation.{Situation, HeadAsked}
-use Rattle.analysis.specs.Answers.{SinceIn}
-use Rattle.analysis.specs.Heads.{ReachedSince, HeadMark, Marked, Solved, solved, SolveAsked}
+use Rattle.steps.specs.Steps.{RowsIn}
+use Rattle.steps.specs.Situation.{Situation, HeadAsked}
+use Rattle.steps.specs.Since.{SinceIn}
+use Rattle.steps.specs.Heads.{ReachedSince, HeadMark, Marked, Solved, solved, SolveAsked}
 use Rattle.analysis.specs.Clauses.{AtEnd}
-use Rattle.analysis.proofs.ShapeAtoms.{shape-is-atom}
-use Rattle.analysis.proofs.Meetings.{setting-within}
-use Rattle.analysis.proofs.Bodies.{head-is-atom}
-use Rattle.analysis.proofs.SlotRows.{in-slot}
+use Rattle.steps.proofs.ShapeAtoms.{shape-is-atom}
+use Rattle.steps.proofs.Meetings.{setting-within}
+use Rattle.steps.proofs.Bodies.{head-is-atom}
+use Rattle.steps.proofs.SlotRows.{in-slot}
 
 -- marks of other variables than the head's pass nothing on
 module _ (H S : Term) (N q C R : ℕ) (k : Kept (λ v. Occ v H) N q) where

@@ -27,7 +27,7 @@ use Rattle.table.proofs.Keys.{row-of-key, entry-before, mask-small}
 use Rattle.table.proofs.Entries.{ascending-append}
 use Rattle.table.proofs.RoundEntries.{rounded-table}
 use Rattle.table.proofs.RoundKeys.{keyed-row}
-use Rattle.analysis.specs.Situation.{Setting}
+use Rattle.steps.specs.Situation.{Setting}
 use Rattle.analysis.specs.Clauses.{Complete}
 use Rattle.analysis.specs.Unpacked.{Packed}
 

@@ -1,35 +1,4 @@
--- The laws of the analysis, each module named by its subject.
-pub mod Stepping
-pub mod SlotRows
-pub mod ShapeAtoms
-pub mod Meetings
-pub mod FirstVariables
-pub mod Appearance
-pub mod Bodies
-pub mod Emitting
-pub mod Joining
-pub mod JoinSteps
-pub mod PlaceAnswers
-pub mod PlaceSteps
-pub mod BodyAtoms
-pub mod ShapeLinks
-pub mod SolveLaws
-pub mod SolveCalls
-pub mod SolveShape
-pub mod AnswerLists
-pub mod AnswersOfShape
-pub mod AnswersMet
-pub mod AnswersOfShapes
-pub mod Forgetting
-pub mod SolveHead
-pub mod SolveShapes
-pub mod CallRows
-pub mod CallWalks
-pub mod MetShapes
-pub mod MarkWalks
-pub mod ShapeVisits
-pub mod FirstVisits
-pub mod HeadVisits
+-- The laws of the rounds and of the finished table.
 pub mod MiddlePlaces
 pub mod HeadMarks
 pub mod ClauseRows

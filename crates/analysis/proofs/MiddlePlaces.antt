@@ -15,11 +15,11 @@ use Rattle.table.specs.Added.{Below}
 use Rattle.table.specs.NewRows.{NewGoesOn}
 use Rattle.table.specs.RoundKeys.{Keyed}
 use Rattle.table.proofs.Lists.{below-nth}
-use Rattle.analysis.specs.Steps.{RowsIn, Writable, Grew, Stepped}
-use Rattle.analysis.specs.Situation.{Situation, BodyOf, MiddleAsked}
+use Rattle.steps.specs.Steps.{RowsIn, Writable, Grew, Stepped}
+use Rattle.steps.specs.Situation.{Situation, BodyOf, MiddleAsked}
 use Rattle.analysis.specs.Clauses.{MiddlesAsked, PastPlaces}
-use Rattle.analysis.proofs.Stepping.{keys-stay, grew-none, stepped-then, stepped-must}
-use Rattle.analysis.proofs.SlotRows.{chains-stay}
+use Rattle.steps.proofs.Stepping.{keys-stay, grew-none, stepped-then, stepped-must}
+use Rattle.steps.proofs.SlotRows.{chains-stay}
 
 -- one step of a loop more
 pub below-one-more : (S : ℕ → ℕ → Type 0) (m m′ key : ℕ) → m′ ≡ suc m → Below S m′ key → Below S m key ⊎ S m key

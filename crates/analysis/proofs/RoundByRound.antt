@@ -32,10 +32,10 @@ use Rattle.table.proofs.Regular.{goal-regular, at-regular}
 use Rattle.table.proofs.Keys.{row-of-key, key-injective}
 use Rattle.table.proofs.Added.{behind-has, behind-keeps}
 use Rattle.table.proofs.RoundKeys.{round-zero, goal-more, round-next, new-first-round, stop-keys, keyed-row, full-more}
-use Rattle.analysis.specs.Steps.{RowsIn, Given, Writable, Grew, Overfull, Stepped}
-use Rattle.analysis.specs.Situation.{Setting, Situation}
+use Rattle.steps.specs.Steps.{RowsIn, Given, Writable, Grew, Overfull, Stepped}
+use Rattle.steps.specs.Situation.{Setting, Situation}
 use Rattle.analysis.specs.Clauses.{InRounds, Complete}
-use Rattle.analysis.proofs.Stepping.{keys-stay}
+use Rattle.steps.proofs.Stepping.{keys-stay}
 
 -- the rows so far are those of round k, those before `since` the rows of the round before
 pub record Rounding (p : Program) (table buckets heads : List ℕ) (room since rows number : ℕ) : Type 0 where

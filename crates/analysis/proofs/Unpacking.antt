@@ -19,10 +19,10 @@ use Rattle.table.specs.Keys.{bodyIndex, Regular, regular-call, regular-cont, re
 use Rattle.table.proofs.Lists.{below-nth, nth-below}
 use Rattle.table.proofs.Keys.{index-below}
 use Rattle.table.proofs.Entries.{table-words-length, table-words-append}
-use Rattle.analysis.specs.Situation.{Setting, BodyOf}
+use Rattle.steps.specs.Situation.{Setting, BodyOf}
 use Rattle.analysis.specs.Unpacked.{withWords, withRow, Stands, Packed, Belongs}
-use Rattle.analysis.proofs.Meetings.{setting-within}
-use Rattle.analysis.proofs.Bodies.{first-body}
+use Rattle.steps.proofs.Meetings.{setting-within}
+use Rattle.steps.proofs.Bodies.{first-body}
 
 module _ {words dir : List ℕ} {p : Program} (s : Setting words dir p) where
   -- the first body atoms of the clauses stand in order

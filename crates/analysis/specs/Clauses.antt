@@ -15,8 +15,8 @@ use Rattle.table.specs.Keys.{rowOf, bodyIndex}
 use Rattle.table.specs.Added.{Below}
 use Rattle.table.specs.NewRows.{NewGoesOn, NewEnds, LateCalls}
 use Rattle.table.specs.RoundKeys.{Keyed, RoundKeys}
-use Rattle.analysis.specs.Steps.{RowsIn}
-use Rattle.analysis.specs.Situation.{Setting, Situation, ClauseOf}
+use Rattle.steps.specs.Steps.{RowsIn}
+use Rattle.steps.specs.Situation.{Setting, Situation, ClauseOf}
 
 -- the body atoms first..last are those of clause k but its last
 pub record MiddlesAsked (words dir table heads : List ℕ) (since rows first last : ℕ) : Type 0 where

@@ -5,7 +5,7 @@ use mathlib.Core.List.{List, _++_}
 use lib.ListN.{length, replicate}
 use Rattle.program.specs.Program.{Program}
 use Rattle.table.specs.Table.{Entry, rowSize, tableWords, TableOf}
-use Rattle.analysis.specs.Situation.{Setting}
+use Rattle.steps.specs.Situation.{Setting}
 use Rattle.analysis.specs.Clauses.{Complete}
 
 pub record FinishAsked (words dir table : List ℕ) (rows : ℕ) : Type 0 where

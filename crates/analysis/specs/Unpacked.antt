@@ -8,7 +8,7 @@ use Rattle.rows.specs.Rows.{rowSize, roundAt, slotAt, maskAt}
 use Rattle.table.specs.Rules.{Row, call, cont, solution}
 use Rattle.table.specs.Table.{Entry, mask}
 use Rattle.table.specs.Keys.{Regular, slotOf}
-use Rattle.analysis.specs.Situation.{Setting, BodyOf}
+use Rattle.steps.specs.Situation.{Setting, BodyOf}
 
 -- the table with the kind, a, b and the mask of row r written
 abbrev pub withWords : List ℕ → ℕ → ℕ → ℕ → ℕ → ℕ → List ℕ

@@ -1,10 +1,4 @@
-// The analysis: the mode rules on the rows in a lent table, round by round, until a round adds none.
+// The analysis: the mode rules, round by round, until a round adds no row; and the table in its order.
 pub mod analyse;
-pub mod answers;
-pub mod calls;
-pub mod joins;
-pub mod meet;
-pub mod place;
 pub mod rounds;
-pub mod solve;
 pub mod unpack;

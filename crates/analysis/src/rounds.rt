@@ -1,20 +1,20 @@
 // The rounds: each looks at the combinations with a row of the last one, clause by clause and place by place.
-use crate::answers::any_since;
-use crate::calls::first_place;
-use crate::calls::mark_head;
-use crate::joins::last_place;
-use crate::joins::middle_place;
-use crate::meet::first_variables;
-use crate::place::Round;
-use crate::solve::solve;
+use calling::calls::first_place;
+use calling::calls::mark_head;
 use directory::layout::CLAUSE_COUNT;
 use directory::layout::CLAUSE_FIRST;
 use directory::layout::CLAUSE_HEAD;
 use directory::layout::CLAUSE_VARS;
 use directory::layout::GOAL_GROUND;
+use joining::joins::last_place;
+use joining::joins::middle_place;
 use rows::chain::link;
 use rows::store::add;
 use rows::zeros::clear;
+use solving::solve::solve;
+use steps::meet::first_variables;
+use steps::place::Round;
+use steps::since::any_since;
 use terms::walk::wide;
 ghost use mathlib.Core.Path.{_≡_};
 ghost use mathlib.Core.List.{List};
@@ -27,9 +27,9 @@ ghost use Rattle.rows.specs.Rows.{keysOf};
 ghost use Rattle.rows.specs.MaskSet.{setWords};
 ghost use Rattle.table.specs.NewRows.{NewIn, NewGives};
 ghost use Rattle.table.specs.RoundKeys.{Keyed};
-ghost use Rattle.analysis.specs.Situation.{Setting, Situation, HeadAsked};
-ghost use Rattle.analysis.specs.Steps.{RowsIn, Writable, Stepped};
-ghost use Rattle.analysis.specs.Heads.{HeadMark, Marked};
+ghost use Rattle.steps.specs.Situation.{Setting, Situation, HeadAsked};
+ghost use Rattle.steps.specs.Steps.{RowsIn, Writable, Stepped};
+ghost use Rattle.steps.specs.Heads.{HeadMark, Marked};
 ghost use Rattle.analysis.specs.Clauses.{MiddlesAsked, PastPlaces, Places, AtEnd, Scratch, RoundsAsked, Finished};
 
 // The middle places of a clause, whose body atoms are first..last.

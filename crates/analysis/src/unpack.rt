@@ -1,11 +1,11 @@
 // Rows as they stand at the end: round, kind, a, b, mask.
-use crate::meet::narrow;
-use crate::place::CONTS;
-use crate::place::SOLUTIONS;
 use directory::layout::CLAUSE_FIRST;
 use rows::row::ROW_SIZE;
 use rows::row::mask_at;
 use rows::row::slot_at;
+use steps::meet::narrow;
+use steps::place::CONTS;
+use steps::place::SOLUTIONS;
 use terms::walk::wide;
 ghost use mathlib.Core.Path.{_≡_};
 ghost use mathlib.Core.List.{_++_};

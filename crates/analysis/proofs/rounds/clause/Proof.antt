@@ -2,7 +2,7 @@
 use native.Mathlib.Omega.{arith}
 use mathlib.Core.Path.{_∙_}
 use mathlib.Core.Logic.{inr}
-use Rattle.analysis.proofs.Stepping.{stepped-within, stepped-past}
+use Rattle.steps.proofs.Stepping.{stepped-within, stepped-past}
 use Rattle.analysis.proofs.ClauseRows.{stands-on, clause-ends}
 use borrow.Author.Needs.{needs}
 use Rattle.analysis.proofs.rounds.clause.Statement.{statement}

@@ -9,11 +9,11 @@ use lib.ListN.{length, length-replicate}
 use mathlib.Core.Logic.{_⊎_, inl, inr, ⊎-elim}
 use Rattle.directory.specs.Directory.{predicateOf}
 use Rattle.rows.specs.MaskSet.{setWords}
-use Rattle.analysis.specs.Situation.{HeadAsked}
-use Rattle.analysis.specs.Answers.{SinceIn}
+use Rattle.steps.specs.Situation.{HeadAsked}
+use Rattle.steps.specs.Since.{SinceIn}
 use borrow.Author.Needs.{needs}
 use Rattle.analysis.proofs.ClauseRows.{clause-few, vars-few, head-there, head-predicate, predicate-asked, asked-since, vars-head}
-use Rattle.analysis.proofs.Stepping.{stepped-must}
+use Rattle.steps.proofs.Stepping.{stepped-must}
 use Rattle.analysis.proofs.HeadMarks.{marked-empty, solve-asked, found-words, ends-solved}
 use Rattle.analysis.proofs.ClearedMarks.{marks-shifted, cleared-empty}
 use Rattle.analysis.proofs.rounds.end_clause.Statement.{statement}

@@ -7,9 +7,9 @@ use mathlib.Core.Logic.{inr}
 use lib.ListN.{length, replicate}
 use Rattle.rows.specs.Rows.{keysOf}
 use Rattle.rows.specs.MaskSet.{setWords}
-use Rattle.analysis.specs.Steps.{Grew}
+use Rattle.steps.specs.Steps.{Grew}
 use Rattle.analysis.specs.Clauses.{MiddlesAsked, PastPlaces}
-use Rattle.analysis.proofs.Stepping.{stepped-within, stepped-past}
+use Rattle.steps.proofs.Stepping.{stepped-within, stepped-past}
 use Rattle.analysis.proofs.MiddlePlaces.{middle-asked, middle-next, middles-begin, middles-end}
 use Rattle.analysis.proofs.rounds.middle_places.Statement.{statement}
 use Rattle.analysis.proofs.rounds.middle_places.Tie as tie

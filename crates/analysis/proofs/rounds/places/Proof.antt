@@ -1,7 +1,7 @@
 -- `places` meets its contract: rows for the first body atom and then for those past a middle place. Assumes nothing.
 use native.Mathlib.Omega.{arith}
 use mathlib.Core.Logic.{inl, inr}
-use Rattle.analysis.proofs.Stepping.{stepped-within, stepped-past}
+use Rattle.steps.proofs.Stepping.{stepped-within, stepped-past}
 use Rattle.analysis.proofs.ClauseRows.{clause-few, no-body, some-body, end-after, first-asked, middles-asked, stands-on, no-places, all-places}
 use borrow.Author.Needs.{needs}
 use Rattle.analysis.proofs.rounds.places.Statement.{statement}

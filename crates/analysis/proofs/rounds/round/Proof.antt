@@ -10,10 +10,10 @@ use Rattle.rows.specs.Rows.{keysOf}
 use Rattle.table.specs.Added.{Below}
 use Rattle.table.specs.NewRows.{NewIn}
 use Rattle.table.specs.RoundKeys.{Keyed}
-use Rattle.analysis.specs.Situation.{Situation}
-use Rattle.analysis.specs.Steps.{RowsIn, Grew}
+use Rattle.steps.specs.Situation.{Situation}
+use Rattle.steps.specs.Steps.{RowsIn, Grew}
 use Rattle.analysis.specs.Clauses.{Scratch}
-use Rattle.analysis.proofs.Stepping.{stepped-within, stepped-past}
+use Rattle.steps.proofs.Stepping.{stepped-within, stepped-past}
 use Rattle.analysis.proofs.ClauseRows.{clauses-begin, clause-asked, clauses-next, clauses-end}
 use Rattle.analysis.proofs.rounds.round.Statement.{statement}
 use Rattle.analysis.proofs.rounds.round.Tie as tie

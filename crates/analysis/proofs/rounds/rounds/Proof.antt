@@ -6,9 +6,9 @@ use mathlib.Core.Logic.{inl, inr}
 use lib.ListN.{length}
 use Rattle.program.specs.Program.{Program}
 use Rattle.rows.proofs.Adding.{empty-store}
-use Rattle.analysis.specs.Situation.{Setting}
+use Rattle.steps.specs.Situation.{Setting}
 use Rattle.analysis.specs.Clauses.{Scratch}
-use Rattle.analysis.proofs.Stepping.{stepped-within, stepped-past}
+use Rattle.steps.proofs.Stepping.{stepped-within, stepped-past}
 use Rattle.analysis.proofs.RoundByRound.{Rounding, strictly, no-room, no-room-by-one, round-zero-there, linked-situation, linked-writable, rounds-overfull, rounds-stop, rounds-next}
 use Rattle.analysis.proofs.rounds.rounds.Statement.{statement}
 use Rattle.analysis.proofs.rounds.rounds.Tie as tie

@@ -1,0 +1,152 @@
+-- The shapes of the predicate of a clause's head, one after the other: the marks that their call rows pass to the head, into a set.
+use Prim.Native.Nat.{ℕ, _+_, _-_, _≤_, _<_}
+use native.Mathlib.Omega.{arith}
+use mathlib.Core.Path.{_≡_, subst}
+use mathlib.Core.Logic.{_⊎_, ⊎-elim, _↔_}
+use mathlib.Core.List.{List}
+use lib.ListN.{length, getD}
+use Rattle.terms.specs.Term.{Occ}
+use Rattle.terms.specs.Mask.{Has, Marks}
+use Rattle.terms.proofs.Masks.{has-none, marks-for}
+use Rattle.marks.specs.Modes.{Kept}
+use Rattle.marks.specs.Passing.{VariablesOf}
+use Rattle.marks.proofs.Modes.{kept-unique}
+use Rattle.marks.proofs.Passing.{pass-within}
+use Rattle.program.specs.Program.{Nth, Clause, Program}
+use Rattle.program.specs.Shapes.{shapes}
+use Rattle.program.proofs.ShapeLaws.{nth-same}
+use Rattle.rows.specs.MaskSet.{setWords}
+use Rattle.directory.specs.Layout.{clauseHead, clauseCells, clauseVars, shapeNext, predicateShape, dirWords}
+use Rattle.directory.specs.Directory.{Stands-at, ClauseAt, Link, predicateOf}
+use Rattle.directory.proofs.Cuts.{nth-within}
+use Rattle.table.specs.Steps.{opens}
+use Rattle.steps.specs.Situation.{Situation, ClauseOf, HeadAsked}
+use Rattle.steps.specs.Heads.{ReachedSince, HeadMark, Marked}
+use Rattle.calling.specs.Calls.{OpenedBy, OpenedBelow, MarkShape}
+use Rattle.steps.proofs.Meetings.{setting-within}
+use Rattle.steps.proofs.MarkedSets.{marked-same, marked-none, marked-then}
+use Rattle.calling.proofs.ShapeVisits.{linksLeft, head-predicate, first-link, link-few, next-link, links-fall, below-none, below-next, below-all}
+use Rattle.calling.proofs.FirstVisits.{one-program}
+
+-- marks that a call row passes to a head are on the head's variables
+pub reached-kept : (p : Program) (table : List ℕ) (since rows : ℕ) {k : ℕ} {c : Clause} → Nth (p .clauses) k c → (N : ℕ)
+    → ReachedSince p table since rows k 0 N → Kept (λ v. Occ v (c .head)) N N
+reached-kept p table since rows {k} {c} hc N (s, M, new, opens hc′ hs passed) v = (λ h. (within h, h), λ h. h .1)
+  where
+    within : Has N v → Occ v (c .head)
+    within h =
+        subst (λ (d : Clause). Occ v (d .head)) (nth-same hc′ hc)
+        (⊎-elim (λ z. absurd (has-none v z)) (λ o. o) (pass-within passed v h))
+
+-- so they are marks on the head, and these are such
+pub reached-head : (p : Program) (table : List ℕ) (since rows : ℕ) {k : ℕ} {c : Clause} → Nth (p .clauses) k c → (q : ℕ)
+    → ReachedSince p table since rows k 0 q ↔ HeadMark p table since rows k 0 q
+reached-head p table since rows {k} {c} hc q = (to, from)
+  where
+    to : ReachedSince p table since rows k 0 q → HeadMark p table since rows k 0 q
+    to r = record { c = c; nth-clause = hc; N = q; reached = r; kept = reached-kept p table since rows hc q r }
+
+    from : HeadMark p table since rows k 0 q → ReachedSince p table since rows k 0 q
+    from m =
+        let e : m .N ≡ q = kept-unique (λ v. Occ v (m .c .head)) (m .N) (m .N) q (reached-kept p table since rows (m .nth-clause) (m .N) (m .reached)) (m .kept) in
+        subst (ReachedSince p table since rows k 0) e (m .reached)
+
+-- the clause, as it was asked for
+pub asked-clause : {words dir table heads : List ℕ} {since rows k : ℕ} → HeadAsked words dir table heads since rows k
+    → (w : Situation words dir table heads since rows) → ClauseOf (w .p) k
+asked-clause {words} {k = k} a w =
+    subst (λ (q : Program). ClauseOf q k) (one-program words (a .situation .setting .accepted) (w .setting .accepted)) (a .clause)
+
+module _ {words dir table heads : List ℕ} {since rows k : ℕ} (w : Situation words dir table heads since rows) (b : ClauseOf (w .p) k) where
+  abbrev p : Program
+  p = w .p
+
+  abbrev predicate : ℕ
+  predicate = predicateOf (b .c .head)
+
+  pub clause-entry : ClauseAt words dir (b .c) k
+  clause-entry = w .setting .directory .clause (b .nth-clause)
+
+  pub head-in-dir : (k < 64) × (length dir ≡ dirWords) × (length words ≤ 2048)
+  head-in-dir =
+      let d = w .setting .directory in
+      (omega (arith, nth-within (b .nth-clause), setting-within (w .setting) .clauses-most), d .size, d .words-most)
+
+  module _ (found : List ℕ) (start cells there : ℕ) where
+    -- the shapes below a number are done, and the link leads to the next
+    pub record HeadVisiting (link : ℕ) (found′ : List ℕ) : Type 0 where
+      pub stands : Stands-at words (b .c .head) start cells
+      pub head-variables : VariablesOf (b .c .head) there
+      pub from : ℕ
+      pub next : Link (shapes p) predicate from link
+      pub marked : Marked (OpenedBelow p table since rows k predicate from) found found′
+
+    pub head-begins : (link : ℕ) → length found ≡ setWords → start ≡ getD dir (clauseHead + k) 0 → cells ≡ getD dir (clauseCells + k) 0
+        → there < 65536 → Marks (λ v. v < getD dir (clauseVars + k) 0) there
+        → link ≡ getD dir (predicateShape + getD words start 0) 0 → HeadVisiting link found
+    head-begins link size e f small m g =
+        record {
+          stands = at-start;
+          head-variables = record { small = small; marked = marks-for there (λ v. (clause-entry .head-variables v .1, clause-entry .head-variables v .0)) m };
+          from = 0;
+          next = rw (g, head-predicate (w .setting) (b .nth-clause) at-start .0) (first-link (w .setting) (b .nth-clause));
+          marked = marked-none found size (below-none (w .setting) (b .nth-clause) table since rows);
+        }
+      where
+        at-start : Stands-at words (b .c .head) start cells
+        at-start = rw (e, f) (clause-entry .stands)
+
+    module _ {link : ℕ} {found′ : List ℕ} (v : HeadVisiting link found′) (some : 0 < link) where
+      abbrev pub head-shape : MarkShape words dir table heads since (link - 1) start cells there
+      head-shape =
+          record {
+            p = p;
+            rows = rows;
+            k = k;
+            shape =
+                record {
+                  setting = w .setting;
+                  chains = w .chains;
+                  S = v .next .named some .1;
+                  nth-shape = v .next .named some .2;
+                  c = b .c;
+                  nth-clause = b .nth-clause;
+                  stands = v .stands;
+                  head-variables = v .head-variables;
+                };
+          }
+
+      pub head-few : link ≤ 1025
+      head-few = link-few (w .setting) (b .nth-clause) (v .next) some
+
+      pub head-nearer : (next : ℕ) → next ≡ getD dir (shapeNext + (link - 1)) 0 → linksLeft next < linksLeft link
+      head-nearer next e =
+          links-fall (w .setting) (b .nth-clause) (v .next) some {next = next} (rw e (next-link (w .setting) (b .nth-clause) (v .next) some))
+
+      pub head-on : {found″ : List ℕ} → Marked (OpenedBy p table since rows k (link - 1)) found′ found″ → (next : ℕ)
+          → next ≡ getD dir (shapeNext + (link - 1)) 0 → HeadVisiting next found″
+      head-on {found″} m next e =
+          record {
+            stands = v .stands;
+            head-variables = v .head-variables;
+            from = link;
+            next = rw e (next-link (w .setting) (b .nth-clause) (v .next) some);
+            marked = marked-same found found″ same (marked-then found found′ found″ (v .marked) m);
+          }
+        where
+          same : (N : ℕ) → (OpenedBelow p table since rows k predicate (v .from) N ⊎ OpenedBy p table since rows k (link - 1) N)
+              ↔ OpenedBelow p table since rows k predicate link N
+          same N = let o = below-next (w .setting) (b .nth-clause) table since rows (v .next) some N in (o .1, o .0)
+
+    pub head-ends : {link : ℕ} {found′ : List ℕ} → HeadVisiting link found′ → link ≤ 0 → Marked (HeadMark p table since rows k 0) found found′
+    head-ends {link} {found′} v l =
+        marked-same found found′ (reached-head p table since rows (b .nth-clause))
+        (marked-same found found′ (below-all (w .setting) (b .nth-clause) table since rows last) (v .marked))
+      where
+        last : Link (shapes p) predicate (v .from) 0
+        last = let e : link ≡ 0 = omega arith in rw e at (v .next)
+
+-- what is asked lies within the directory and the words
+pub asked-head-in-dir : {words dir table heads : List ℕ} {since rows k : ℕ} → HeadAsked words dir table heads since rows k
+    → (k < 64) × (length dir ≡ dirWords) × (length words ≤ 2048)
+asked-head-in-dir a = head-in-dir (a .situation) (asked-clause a (a .situation))

@@ -1,0 +1,2 @@
+-- What rule 1 asks for and adds.
+pub mod Calls

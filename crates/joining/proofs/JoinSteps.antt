@@ -1,0 +1,198 @@
+-- The steps of the loops over answers and over cont rows: what they have given so far, and that the rules reach it.
+use Prim.Native.Nat.{ℕ, suc, _+_, _-_, _*_, _≤_, _<_}
+use native.Mathlib.Omega.{arith}
+use mathlib.Core.Path.{_≡_, refl, sym, subst, _∙_}
+use mathlib.Core.Bool.{Bool}
+use mathlib.Core.Logic.{_⊎_, inl, inr, ⊎-elim, _↔_}
+use mathlib.Core.List.{List}
+use lib.ListN.{length, getD}
+use Rattle.terms.specs.Mask.{Has}
+use Rattle.marks.specs.Modes.{modes, Together, Kept}
+use Rattle.rows.specs.Rows.{rowSize, slotAt, maskAt, beforeAt, keysOf}
+use Rattle.rows.proofs.Adding.{same-mask}
+use Rattle.rows.specs.MaskSet.{setWords, Inserted}
+use Rattle.table.specs.Rules.{Reached}
+use Rattle.table.specs.RoundKeys.{Keyed}
+use Rattle.steps.specs.Situation.{Place}
+use Rattle.steps.specs.Steps.{RowsIn, Writable, Grew, Stepped, Emitted}
+use Rattle.steps.specs.Heads.{Marked}
+use Rattle.joining.specs.Joined.{JoinedWith, Due, ContMarks, RowsOf, KeptOf, Reaching, AnswersThere, ContsAsked, ContsThere}
+use Rattle.steps.proofs.Stepping.{keys-stay, grew-none, stepped-within}
+use Rattle.steps.proofs.MarkedSets.{marked-same, marked-none, marked-one, marked-then}
+use Rattle.joining.proofs.Joining.{joined-none, joined-more, joined-fewer, due-new, due-old, marks-begin, next-falls, next-own, next-marks, rows-more, rows-one, kept-split, kept-one}
+
+module _ {dir order table : List ℕ} {count rows j : ℕ} (mask : ℕ) (answers : List ℕ) (upto : ℕ) (w : Reaching dir order table count rows j (JoinedWith mask answers upto)) (buckets : List ℕ) (round room n : ℕ) where
+  -- no answer yet
+  pub answers-begin : Writable table buckets n room
+      → Grew (w .place .p) (keysOf table rows) round room n table buckets (RowsOf (w .place .p) (w .place .k) (w .place .i) (JoinedWith mask answers 0)) n table buckets
+  answers-begin writable =
+      grew-none (w .place .p) (keysOf table rows) round room n table buckets _ writable (λ key (N, m, _). absurd (joined-none mask answers N m))
+
+  -- one answer more
+  pub answer-emitted : (x N n′ n″ : ℕ) (table′ buckets′ table″ buckets″ : List ℕ) → rows ≤ n → x < upto → upto ≤ length answers → Together mask (getD answers x 0) N
+      → Grew (w .place .p) (keysOf table rows) round room n table buckets (RowsOf (w .place .p) (w .place .k) (w .place .i) (JoinedWith mask answers x)) n′ table′ buckets′
+      → ((v : Place dir order count j) → Reached modes (v .p) (RowsIn (v .p) (keysOf table′ rows)) (v .k) (v .i) N
+      → Stepped (v .p) (keysOf table′ rows) round room n′ table′ buckets′ (Keyed (v .p) (Emitted (v .p) (v .k) (v .i) N)) n″ table″ buckets″)
+      → Stepped (w .place .p) (keysOf table rows) round room n table buckets (RowsOf (w .place .p) (w .place .k) (w .place .i) (JoinedWith mask answers (x + 1))) n″ table″ buckets″
+  answer-emitted x N n′ n″ table′ buckets′ table″ buckets″ enough less there joined g emitted =
+      let p = w .place .p in
+      let same = keys-stay table table′ n rows enough (g .same-rows) in
+      let more = joined-more mask answers x N (omega arith) joined in
+      let reached = w .reached N (joined-fewer mask answers (x + 1) upto N (omega arith) (more N .1 (inr refl))) in
+      let now = emitted (w .place) (subst (λ (ks : List ℕ). Reached modes p (RowsIn p ks) (w .place .k) (w .place .i) N) (sym same) reached) in
+      rows-more p (keysOf table rows) round room (w .place .k) (w .place .i) n n′ n″ table buckets table′ buckets′ table″ buckets″
+      (JoinedWith mask answers x) (λ N′. N′ ≡ N) (JoinedWith mask answers (x + 1)) (λ N′. more N′ .0) g
+      (rows-one p (keysOf table rows) round room (w .place .k) (w .place .i) n′ n″ table′ buckets′ table″ buckets″ N
+      (subst (λ (ks : List ℕ). Stepped p ks round room n′ table′ buckets′ (Keyed p (Emitted p (w .place .k) (w .place .i) N)) n″ table″ buckets″) same now))
+
+-- one answer more into the set
+pub answer-marked : (mask : ℕ) (answers : List ℕ) (there x N K : ℕ) (new : Bool) (found found′ found″ : List ℕ) → x < length answers → Together mask (getD answers x 0) N
+    → Kept (Has there) N K → length found″ ≡ setWords → Inserted found′ found″ K new → Marked (KeptOf there (JoinedWith mask answers x)) found found′
+    → Marked (KeptOf there (JoinedWith mask answers (x + 1))) found found″
+answer-marked mask answers there x N K new found found′ found″ less joined kept size ins m =
+    let split = kept-split there (JoinedWith mask answers x) (λ N′. N′ ≡ N) (JoinedWith mask answers (x + 1)) (joined-more mask answers x N less joined) in
+    marked-same found found″ (λ q. (split q .1, split q .0))
+    (marked-then found found′ found″ m (marked-same found′ found″ (kept-one there N K kept) (marked-one found′ found″ K new size ins)))
+
+-- how many answers row r joins
+abbrev pub Turn : ℕ → ℕ → ℕ → ℕ → ℕ → Type 0
+Turn since fresh all r upto = ((since ≤ r) × (upto ≡ all)) ⊎ ((r < since) × (upto ≡ fresh))
+
+module _ (answers : List ℕ) (since fresh all r upto : ℕ) (there : AnswersThere answers fresh all) (turn : Turn since fresh all r upto) where
+  pub turn-there : upto ≤ length answers
+  turn-there = ⊎-elim (λ (_, e). omega (arith, there .most)) (λ (_, e). omega (arith, there .few, there .most)) turn
+
+  pub turn-due : (M N : ℕ) → Due M answers since fresh all r N ↔ JoinedWith M answers upto N
+  turn-due M N =
+      ⊎-elim
+      (λ (l, e). subst (λ (x : ℕ). Due M answers since fresh all r N ↔ JoinedWith M answers x N) (sym e) (due-new M answers since fresh all r N (there .few) l))
+      (λ (l, e). subst (λ (x : ℕ). Due M answers since fresh all r N ↔ JoinedWith M answers x N) (sym e) (due-old M answers since fresh all r N l))
+      turn
+
+-- the walk over the cont rows has come to the link: the rows behind it have given theirs
+pub record ContsWalk {dir order table answers : List ℕ} {count rows newest since fresh all j : ℕ} (w : ContsAsked dir order table answers count rows newest since fresh all j)
+    (buckets : List ℕ) (round room n link n′ : ℕ) (table′ buckets′ : List ℕ) : Type 0 where
+  pub within : link ≤ rows
+  pub own : (r : ℕ) → suc r ≡ link → slotAt table r ≡ w .slot
+  pub grew : Grew (w .reaching .place .p) (keysOf table rows) round room n table buckets
+      (RowsOf (w .reaching .place .p) (w .reaching .place .k) (w .reaching .place .i) (ContMarks table answers (w .slot) rows since fresh all link)) n′ table′ buckets′
+
+module _ {dir order table answers : List ℕ} {count rows newest since fresh all j : ℕ} (w : ContsAsked dir order table answers count rows newest since fresh all j)
+    (buckets : List ℕ) (round room n : ℕ) where
+  pub conts-begin : Writable table buckets n room → ContsWalk w buckets round room n newest n table buckets
+  conts-begin writable =
+      record {
+        within = w .chain .head .within;
+        own = w .chain .head .own;
+        grew =
+            grew-none (w .reaching .place .p) (keysOf table rows) round room n table buckets _ writable
+            (λ key (N, m, _). absurd (marks-begin table answers (w .slot) rows newest since fresh all (w .chain) N m));
+      }
+
+  module _ (enough : rows ≤ n) (link n′ : ℕ) (table′ buckets′ : List ℕ) (walk : ContsWalk w buckets round room n link n′ table′ buckets′) (more : 0 < link)
+      (upto mask : ℕ) (turn : Turn since fresh all (link - 1) upto) (is : mask ≡ maskAt table′ (link - 1)) where
+    mask-was : mask ≡ maskAt table (link - 1)
+    mask-was = is ∙ same-mask table table′ n (walk .grew .same-rows) (link - 1) (omega (arith, walk .within))
+
+    same : keysOf table′ rows ≡ keysOf table rows
+    same = keys-stay table table′ n rows enough (walk .grew .same-rows)
+
+    split : (N : ℕ) → ContMarks table answers (w .slot) rows since fresh all (beforeAt table (link - 1)) N
+        → ContMarks table answers (w .slot) rows since fresh all link N ⊎ JoinedWith mask answers upto N
+    split N m =
+        ⊎-elim inl
+        (λ d. inr (subst (λ (x : ℕ). JoinedWith x answers upto N) (sym mask-was) (turn-due answers since fresh all (link - 1) upto (w .answers-there) turn (maskAt table (link - 1)) N .0 d)))
+        (next-marks table answers (w .slot) rows newest since fresh all (w .chain) link (walk .within) (walk .own) more N .0 m)
+
+    joined-there : (N : ℕ) → JoinedWith mask answers upto N → ContMarks table answers (w .slot) rows since fresh all 0 N
+    joined-there N m =
+        let d = turn-due answers since fresh all (link - 1) upto (w .answers-there) turn (maskAt table (link - 1)) N .1 (subst (λ (x : ℕ). JoinedWith x answers upto N) mask-was m) in
+        (link - 1, omega arith, omega (arith, walk .within), walk .own (link - 1) (omega arith), d)
+
+    pub row-reaching : Reaching dir order table′ count rows j (JoinedWith mask answers upto)
+    row-reaching =
+        record {
+          place = w .reaching .place;
+          reached = λ N m.
+              let v = w .reaching .place in
+              subst (λ (ks : List ℕ). Reached modes (v .p) (RowsIn (v .p) ks) (v .k) (v .i) N) (sym same) (w .reaching .reached N (joined-there N m));
+        }
+
+    module _ (n″ : ℕ) (table″ buckets″ : List ℕ)
+        (emitted : (v : Reaching dir order table′ count rows j (JoinedWith mask answers upto))
+        → Stepped (v .place .p) (keysOf table′ rows) round room n′ table′ buckets′ (RowsOf (v .place .p) (v .place .k) (v .place .i) (JoinedWith mask answers upto)) n″ table″ buckets″) where
+      pub row-emitted : Stepped (w .reaching .place .p) (keysOf table rows) round room n table buckets
+          (RowsOf (w .reaching .place .p) (w .reaching .place .k) (w .reaching .place .i) (ContMarks table answers (w .slot) rows since fresh all (beforeAt table (link - 1)))) n″ table″ buckets″
+      unfolding row-reaching
+      row-emitted =
+          let v = w .reaching .place in
+          rows-more (v .p) (keysOf table rows) round room (v .k) (v .i) n n′ n″ table buckets table′ buckets′ table″ buckets″
+          (ContMarks table answers (w .slot) rows since fresh all link) (JoinedWith mask answers upto) (ContMarks table answers (w .slot) rows since fresh all (beforeAt table (link - 1)))
+          split (walk .grew)
+          (subst (λ (ks : List ℕ). Stepped (v .p) ks round room n′ table′ buckets′ (RowsOf (v .p) (v .k) (v .i) (JoinedWith mask answers upto)) n″ table″ buckets″) same (emitted row-reaching))
+
+      module _ (fits : n″ ≤ room) where
+        grown : Grew (w .reaching .place .p) (keysOf table rows) round room n table buckets
+            (RowsOf (w .reaching .place .p) (w .reaching .place .k) (w .reaching .place .i) (ContMarks table answers (w .slot) rows since fresh all (beforeAt table (link - 1)))) n″ table″ buckets″
+        grown = stepped-within (w .reaching .place .p) (keysOf table rows) round room n n″ table buckets table″ buckets″ _ row-emitted fits
+
+        next-was : beforeAt table″ (link - 1) ≡ beforeAt table (link - 1)
+        next-was = grown .same-rows (rowSize * (link - 1) + 3) (omega (arith, walk .within))
+
+        pub row-room : rowSize * (link - 1) + 4 < length table″
+        row-room = omega (arith, walk .within, w .chain .fits, grown .same-length)
+
+        pub row-falls : beforeAt table″ (link - 1) < link
+        row-falls = rw next-was (next-falls table answers (w .slot) rows newest since fresh all (w .chain) link (walk .within) (walk .own) more)
+
+        pub row-done : ContsWalk w buckets round room n (beforeAt table″ (link - 1)) n″ table″ buckets″
+        row-done =
+            subst (λ (next : ℕ). ContsWalk w buckets round room n next n″ table″ buckets″) (sym next-was)
+            (record {
+              within = omega (arith, walk .within, next-falls table answers (w .slot) rows newest since fresh all (w .chain) link (walk .within) (walk .own) more);
+              own = next-own table answers (w .slot) rows newest since fresh all (w .chain) link (walk .within) (walk .own) more;
+              grew = grown;
+            })
+
+-- the same walk for marks on the head
+pub record MarksWalk {table answers : List ℕ} {newest fresh all : ℕ} (w : ContsThere table answers newest fresh all) (since there : ℕ) (found : List ℕ) (link : ℕ) (found′ : List ℕ) : Type 0 where
+  pub within : link ≤ w .rows
+  pub own : (r : ℕ) → suc r ≡ link → slotAt table r ≡ w .slot
+  pub marked : Marked (KeptOf there (ContMarks table answers (w .slot) (w .rows) since fresh all link)) found found′
+
+module _ {table answers : List ℕ} {newest fresh all : ℕ} (w : ContsThere table answers newest fresh all) (since there : ℕ) (found : List ℕ) where
+  pub marks-walk-begins : length found ≡ setWords → MarksWalk w since there found newest found
+  marks-walk-begins size =
+      record {
+        within = w .chain .head .within;
+        own = w .chain .head .own;
+        marked = marked-none found size (λ q (N, m, _). marks-begin table answers (w .slot) (w .rows) newest since fresh all (w .chain) N m);
+      }
+
+  module _ (link : ℕ) (found′ : List ℕ) (walk : MarksWalk w since there found link found′) (more : 0 < link) where
+    pub marks-row-room : rowSize * (link - 1) + 4 < length table
+    marks-row-room = omega (arith, walk .within, w .chain .fits)
+
+    pub marks-row-falls : beforeAt table (link - 1) < link
+    marks-row-falls = next-falls table answers (w .slot) (w .rows) newest since fresh all (w .chain) link (walk .within) (walk .own) more
+
+    pub marks-row-done : (upto mask : ℕ) (found″ : List ℕ) → Turn since fresh all (link - 1) upto → mask ≡ maskAt table (link - 1)
+        → Marked (KeptOf there (JoinedWith mask answers upto)) found′ found″ → MarksWalk w since there found (beforeAt table (link - 1)) found″
+    marks-row-done upto mask found″ turn is marked =
+        record {
+          within = omega (arith, walk .within, marks-row-falls);
+          own = next-own table answers (w .slot) (w .rows) newest since fresh all (w .chain) link (walk .within) (walk .own) more;
+          marked =
+              marked-same found found″ (λ q. (split q .1, split q .0))
+              (marked-then found found′ found″ (walk .marked)
+              (marked-same found′ found″ (λ q. (λ (N, m, k). (N, turned N .1 m, k), λ (N, m, k). (N, turned N .0 m, k))) marked));
+        }
+      where
+        turned : (N : ℕ) → Due (maskAt table (link - 1)) answers since fresh all (link - 1) N ↔ JoinedWith mask answers upto N
+        turned N = subst (λ (x : ℕ). Due (maskAt table (link - 1)) answers since fresh all (link - 1) N ↔ JoinedWith x answers upto N) (sym is)
+            (turn-due answers since fresh all (link - 1) upto (w .answers-there) turn (maskAt table (link - 1)) N)
+
+        split : (q : ℕ) → KeptOf there (ContMarks table answers (w .slot) (w .rows) since fresh all (beforeAt table (link - 1))) q
+            ↔ (KeptOf there (ContMarks table answers (w .slot) (w .rows) since fresh all link) q ⊎ KeptOf there (Due (maskAt table (link - 1)) answers since fresh all (link - 1)) q)
+        split = kept-split there (ContMarks table answers (w .slot) (w .rows) since fresh all link) (Due (maskAt table (link - 1)) answers since fresh all (link - 1)) (ContMarks table answers (w .slot) (w .rows) since fresh all (beforeAt table (link - 1)))
+            (next-marks table answers (w .slot) (w .rows) newest since fresh all (w .chain) link (walk .within) (walk .own) more)

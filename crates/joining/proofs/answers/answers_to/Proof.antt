@@ -1,0 +1,275 @@
+-- `answers_to` meets its contract: the answers of the predicate's shapes that are passed are listed. The measure is how many shapes may be left.
+-- Assumes nothing.
+use native.Mathlib.Omega.{arith}
+use borrow.Author.Needs.{needs}
+use mathlib.Core.Path.{sym, _∙_}
+use mathlib.Core.Logic.{⊎-elim}
+use Rattle.steps.specs.Situation.{Situation, BodyOf}
+use Rattle.steps.proofs.BodyAtoms.{number-below}
+use Rattle.steps.proofs.ShapeLinks.{shapesLeft, predicate-below, links-fall}
+use Rattle.joining.proofs.AnswersOfShapes.{declared, cells-some, cells-fit, argument-cells, atom-variables, Shaped, shaped-begins, shape-few, slot-there, met-asked, none-newer, shaped-met, shaped-goes-on, shaped-ends}
+use Rattle.joining.proofs.answers.answers_to.Statement.{statement}
+use Rattle.joining.proofs.answers.answers_to.Tie as tie
+
+abbrev Inv-loop : tie.InvT-loop
+Inv-loop words dir table heads j from to seen₀ answers₀ count rows start cells end next there found₀ link₀ seen answers found link =
+    (w : Situation words dir table heads to rows) (b : BodyOf (w .p) j)
+    → Shaped (w .p) table (b .A) from to rows link seen answers count found answers₀
+
+abbrev μ-loop : tie.MeasureT-loop
+μ-loop words dir table heads j from to seen₀ answers₀ count rows start cells end next there found₀ link₀ seen answers found link =
+    shapesLeft link
+
+add-wide : tie.Need-add-wide Inv-loop μ-loop
+add-wide c =
+    let st = c .before .before .before .before .before .before in
+    omega (arith, number-below (st .pre .situation .setting) (st .pre .body))
+
+mul-wide : tie.Need-mul-wide Inv-loop μ-loop
+mul-wide c =
+    let st = c .before .before .before .before .before .before in
+    omega (arith, number-below (st .pre .situation .setting) (st .pre .body))
+
+shared-slice-read-wide : tie.Need-shared-slice-read-wide Inv-loop μ-loop
+shared-slice-read-wide c =
+    let st = c .before .before .before .before .before .before .before in
+    let W = st .pre .situation in
+    omega (arith, number-below (W .setting) (st .pre .body), W .setting .directory .size)
+
+wide-requires : tie.Need-wide-requires Inv-loop μ-loop
+wide-requires c κs = search needs
+
+add-wide-2 : tie.Need-add-wide-2 Inv-loop μ-loop
+add-wide-2 c =
+    let st = c .before .before .before .before .before .before .before .before in
+    omega (arith, number-below (st .pre .situation .setting) (st .pre .body))
+
+mul-wide-2 : tie.Need-mul-wide-2 Inv-loop μ-loop
+mul-wide-2 c =
+    let st = c .before .before .before .before .before .before .before .before in
+    omega (arith, number-below (st .pre .situation .setting) (st .pre .body))
+
+shared-slice-read-wide-2 : tie.Need-shared-slice-read-wide-2 Inv-loop μ-loop
+shared-slice-read-wide-2 c =
+    let st = c .before .before .before .before .before .before .before .before .before in
+    let W = st .pre .situation in
+    omega (arith, number-below (W .setting) (st .pre .body), W .setting .directory .size)
+
+wide-requires-2 : tie.Need-wide-requires-2 Inv-loop μ-loop
+wide-requires-2 c κs = search needs
+
+add-end : tie.Need-add-end Inv-loop μ-loop
+add-end c = omega (arith, c .before .before .wide .ensures .1, c .wide2 .ensures .1)
+
+add-next : tie.Need-add-next Inv-loop μ-loop
+add-next c = omega (arith, c .before .before .wide .ensures .1)
+
+mul-variables-of : tie.Need-mul-variables-of Inv-loop μ-loop
+mul-variables-of c = omega (arith, c .before .before .wide .ensures .1)
+
+sub-variables-of : tie.Need-sub-variables-of Inv-loop μ-loop
+sub-variables-of c =
+    let st = c .before .before .before .before .before .before .before .before .before .before in
+    omega (arith, cells-some (st .pre .situation) (st .pre .body), c .wide2 .ensures .0)
+
+part-variables-of-start : tie.Need-part-variables-of-start Inv-loop μ-loop
+part-variables-of-start c =
+    let st = c .before .before .before .before .before .before .before .before .before .before in
+    omega (arith, cells-some (st .pre .situation) (st .pre .body), c .wide2 .ensures .0)
+
+part-variables-of-end : tie.Need-part-variables-of-end Inv-loop μ-loop
+part-variables-of-end c =
+    let st = c .before .before .before .before .before .before .before .before .before .before in
+    omega (arith, cells-fit (st .pre .situation) (st .pre .body), c .before .before .wide .ensures .0, c .wide2 .ensures .0)
+
+variables-of-requires : tie.Need-variables-of-requires Inv-loop μ-loop
+variables-of-requires c κs =
+    let st = c .before .before .before .before .before .before .before .before .before .before .before in
+    rw (c .before .before .before .wide .ensures .0, c .before .wide2 .ensures .0) (argument-cells (st .pre .situation) (st .pre .body))
+
+mul-wide-3 : tie.Need-mul-wide-3 Inv-loop μ-loop
+mul-wide-3 c = omega (arith, c .before .before .before .before .wide .ensures .1)
+
+shared-slice-read-wide-3 : tie.Need-shared-slice-read-wide-3 Inv-loop μ-loop
+shared-slice-read-wide-3 c =
+    let st = c .before .before .before .before .before .before .before .before .before .before .before .before .before in
+    let W = st .pre .situation in
+    let B = st .pre .body in
+    omega (arith, cells-some W B, cells-fit W B, c .before .before .before .before .before .wide .ensures .0)
+
+wide-requires-3 : tie.Need-wide-requires-3 Inv-loop μ-loop
+wide-requires-3 c κs = search needs
+
+add-wide-3 : tie.Need-add-wide-3 Inv-loop μ-loop
+add-wide-3 c = omega (arith, c .wide3 .ensures .1)
+
+mul-wide-4 : tie.Need-mul-wide-4 Inv-loop μ-loop
+mul-wide-4 c = omega (arith, c .wide3 .ensures .1)
+
+shared-slice-read-wide-4 : tie.Need-shared-slice-read-wide-4 Inv-loop μ-loop
+shared-slice-read-wide-4 c =
+    let st = c .before .before .before .before .before .before .before .before .before .before .before .before .before .before .before in
+    let W = st .pre .situation in
+    rw (c .before .wide3 .ensures .0, c .before .before .before .before .before .before .before .wide .ensures .0) (predicate-below (W .setting) _ (declared W (st .pre .body)))
+
+wide-requires-4 : tie.Need-wide-requires-4 Inv-loop μ-loop
+wide-requires-4 c κs = search needs
+
+loop-holds : tie.Need-loop-holds Inv-loop μ-loop
+loop-holds c =
+    let st = c .before .before .before .before .before .before .before .before .before .before .before .before .before .before .before .before in
+    λ w b. rw (c .wide4 .ensures .0, c .before .before .wide3 .ensures .0, c .before .before .before .before .before .before .before .before .wide .ensures .0) (shaped-begins w b (st .pre .listing) (st .pre .sources))
+
+sub-s : tie.Need-sub-s Inv-loop μ-loop
+sub-s c = omega (arith, c .loop-test .taken)
+
+add-wide-4 : tie.Need-add-wide-4 Inv-loop μ-loop
+add-wide-4 c =
+    let st = c .before .before .before .before .before .before .before .before .before .before .before .before .before .before .before .before .before .before in
+    let W = st .pre .situation in
+    let B = st .pre .body in
+    omega (arith, shape-few W B (c .before .loop .inv W B) (c .loop-test .taken))
+
+mul-wide-5 : tie.Need-mul-wide-5 Inv-loop μ-loop
+mul-wide-5 c =
+    let st = c .before .before .before .before .before .before .before .before .before .before .before .before .before .before .before .before .before .before in
+    let W = st .pre .situation in
+    let B = st .pre .body in
+    omega (arith, shape-few W B (c .before .loop .inv W B) (c .loop-test .taken))
+
+shared-slice-read-wide-5 : tie.Need-shared-slice-read-wide-5 Inv-loop μ-loop
+shared-slice-read-wide-5 c =
+    let st = c .before .before .before .before .before .before .before .before .before .before .before .before .before .before .before .before .before .before .before in
+    let W = st .pre .situation in
+    let B = st .pre .body in
+    slot-there W B (c .before .before .loop .inv W B) (c .before .loop-test .taken)
+
+wide-requires-5 : tie.Need-wide-requires-5 Inv-loop μ-loop
+wide-requires-5 c κs = search needs
+
+of-met-requires : tie.Need-of-met-requires Inv-loop μ-loop
+of-met-requires c κs =
+    let st = c .before .before .before .before .before .before .before .before .before .before .before .before .before .before .before .before .before .before .before .before .before .before .before in
+    let W = st .pre .situation in
+    let B = st .pre .body in
+    let start-is = c .before .before .before .before .before .before .before .before .before .before .before .before .before .before .before .wide .ensures .0 in
+    let cells-is = c .before .before .before .before .before .before .before .before .before .before .before .before .before .wide2 .ensures .0 in
+    let there = c .before .before .before .before .before .before .before .before .before .before .before .variables-of in
+    met-asked W B (c .before .before .before .before .before .before .loop .inv W B) (c .before .before .before .before .before .loop-test .taken) (c .before .before .before .wide5 .ensures .0) start-is cells-is (atom-variables W B (there .result) (rw (start-is, cells-is) at (there .ensures)))
+
+same-length : tie.Need-same-length Inv-loop μ-loop
+same-length c = absurd (omega (arith, c .if2 .taken, c .before .before .before .before .before .of-met .ensures .0))
+
+same-length-2 : tie.Need-same-length-2 Inv-loop μ-loop
+same-length-2 c = absurd (omega (arith, c .if2 .taken, c .before .before .before .before .before .of-met .ensures .0))
+
+returns : tie.Need-returns Inv-loop μ-loop
+returns c = absurd (omega (arith, c .if2 .taken, c .before .before .before .before .before .of-met .ensures .0))
+
+add-wide-5 : tie.Need-add-wide-5 Inv-loop μ-loop
+add-wide-5 c =
+    let st = c .before .before .before .before .before .before .before .before .before .before .before .before .before .before .before .before .before .before .before .before .before in
+    let W = st .pre .situation in
+    let B = st .pre .body in
+    omega (arith, shape-few W B (c .before .before .before .before .loop .inv W B) (c .before .before .before .loop-test .taken))
+
+mul-wide-6 : tie.Need-mul-wide-6 Inv-loop μ-loop
+mul-wide-6 c =
+    let st = c .before .before .before .before .before .before .before .before .before .before .before .before .before .before .before .before .before .before .before .before .before in
+    let W = st .pre .situation in
+    let B = st .pre .body in
+    omega (arith, shape-few W B (c .before .before .before .before .loop .inv W B) (c .before .before .before .loop-test .taken))
+
+shared-slice-read-wide-6 : tie.Need-shared-slice-read-wide-6 Inv-loop μ-loop
+shared-slice-read-wide-6 c =
+    let st = c .before .before .before .before .before .before .before .before .before .before .before .before .before .before .before .before .before .before .before .before .before .before in
+    let W = st .pre .situation in
+    let B = st .pre .body in
+    omega (arith, shape-few W B (c .before .before .before .before .before .loop .inv W B) (c .before .before .before .before .loop-test .taken), W .setting .directory .size)
+
+wide-requires-6 : tie.Need-wide-requires-6 Inv-loop μ-loop
+wide-requires-6 c κs = search needs
+
+loop-less : tie.Need-loop-less Inv-loop μ-loop
+loop-less c =
+    let st = c .before .before .before .before .before .before .before .before .before .before .before .before .before .before .before .before .before .before .before .before .before .before .before in
+    let W = st .pre .situation in
+    rw (c .wide6 .ensures .0) (links-fall (W .setting) ((c .before .before .before .before .before .before .loop .inv W (st .pre .body)) .links) (c .before .before .before .before .before .loop-test .taken))
+
+loop-again : tie.Need-loop-again Inv-loop μ-loop
+loop-again c =
+    let at = c .before .before .before .before .before .before in
+    let start-is = c .before .before .before .before .before .before .before .before .before .before .before .before .before .before .before .wide .ensures .0 in
+    let cells-is = c .before .before .before .before .before .before .before .before .before .before .before .before .before .wide2 .ensures .0 in
+    let there = c .before .before .before .before .before .before .before .before .before .before .before .variables-of in
+    let more = c .before .before .before .before .before .loop-test .taken in
+    λ w b. rw (c .wide6 .ensures .0) (⊎-elim
+    (λ v. rw (v .9, v .10, v .11) (shaped-met w b (at .loop .inv w b) more (c .before .before .before .wide5 .ensures .0) start-is cells-is
+    (atom-variables w b (there .result) (rw (start-is, cells-is) at (there .ensures))) (v .3 .ensures .1)))
+    (λ v. rw (v .1, v .2, v .3) (shaped-goes-on w b (at .loop .inv w b) more
+    (none-newer w b (at .loop .inv w b) more (rw (c .before .before .before .wide5 .ensures .0) at (v .0 .left)))))
+    (c .before .before .if1 .came))
+
+same-length-3 : tie.Need-same-length-3 Inv-loop μ-loop
+same-length-3 c =
+    let st = c .before .before .before .before .before .before .before .before .before .before .before .before .before .before .before .before .before .before in
+    (c .before .loop .inv (st .pre .situation) (st .pre .body)) .before .listing .set-size ∙ sym (st .pre .listing .set-size)
+
+same-length-4 : tie.Need-same-length-4 Inv-loop μ-loop
+same-length-4 c =
+    let st = c .before .before .before .before .before .before .before .before .before .before .before .before .before .before .before .before .before .before in
+    (c .before .loop .inv (st .pre .situation) (st .pre .body)) .before .listing .list-size ∙ sym (st .pre .listing .list-size)
+
+returns-2 : tie.Need-returns-2 Inv-loop μ-loop
+returns-2 c =
+    let st = c .before .before .before .before .before .before .before .before .before .before .before .before .before .before .before .before .before .before in
+    let at = c .before in
+    ((at .loop .inv (st .pre .situation) (st .pre .body)) .before .listing .within, λ w b. shaped-ends w b (at .loop .inv w b) (c .loop-test .left))
+
+pub answers-to-spec : {M : Type 1} → statement M
+answers-to-spec =
+    tie.close
+    (tie.spec
+    Inv-loop
+    μ-loop
+    add-wide
+    mul-wide
+    shared-slice-read-wide
+    wide-requires
+    add-wide-2
+    mul-wide-2
+    shared-slice-read-wide-2
+    wide-requires-2
+    add-end
+    add-next
+    mul-variables-of
+    sub-variables-of
+    part-variables-of-start
+    part-variables-of-end
+    variables-of-requires
+    mul-wide-3
+    shared-slice-read-wide-3
+    wide-requires-3
+    add-wide-3
+    mul-wide-4
+    shared-slice-read-wide-4
+    wide-requires-4
+    loop-holds
+    sub-s
+    add-wide-4
+    mul-wide-5
+    shared-slice-read-wide-5
+    wide-requires-5
+    of-met-requires
+    same-length
+    same-length-2
+    returns
+    add-wide-5
+    mul-wide-6
+    shared-slice-read-wide-6
+    wide-requires-6
+    loop-less
+    loop-again
+    same-length-3
+    same-length-4
+    returns-2)

@@ -1,0 +1,4 @@
+-- What rule 2 asks for and adds.
+pub mod Answers
+pub mod AnswerSteps
+pub mod Joined

@@ -1,0 +1,94 @@
+-- Rule 3 for one call row: marks that pass beside the shape's own, marks kept to the head's variables, and the solution row that they give.
+use Prim.Native.Nat.{ℕ, _<_}
+use native.Mathlib.Omega.{arith}
+use mathlib.Core.Path.{_≡_, refl, subst}
+use mathlib.Core.Logic.{_⊎_, inl, inr, ⊎-elim, ⊎-map}
+use mathlib.Core.List.{List}
+use lib.ListN.{length}
+use Rattle.terms.specs.Term.{Term, Occ, All}
+use Rattle.terms.specs.Mask.{Has}
+use Rattle.terms.proofs.Substs.{all-occ, occ-all}
+use Rattle.terms.proofs.Masks.{has-none, marks-for}
+use Rattle.marks.specs.Pass.{Known, Marked, Pass}
+use Rattle.marks.specs.Modes.{modes, Together, Kept}
+use Rattle.program.specs.Program.{Clause}
+use Rattle.program.proofs.ShapeLaws.{nth-same}
+use Rattle.directory.specs.Layout.{maxShapes}
+use Rattle.rows.specs.Rows.{slotAt, maskAt, keysOf, keyOf as rowKey}
+use Rattle.table.specs.Rules.{call, solution, solves}
+use Rattle.table.specs.Keys.{keyOf, rowAt}
+use Rattle.table.proofs.Keys.{call-at}
+use Rattle.table.proofs.NewRows.{new-reached}
+use Rattle.steps.specs.Steps.{RowsIn, Given}
+use Rattle.steps.specs.Heads.{HeadMark}
+use Rattle.solving.specs.Solving.{ToShape, PassesTo}
+use Rattle.steps.proofs.SlotRows.{at-slot}
+use Rattle.steps.proofs.ShapeLinks.{shape-below}
+
+-- "which keeps the call's own marks": what passes to an atom with marks of its own is what passes to it with none, together with them
+pub pass-own : {A B : Term} {M R₀ : ℕ} (N R : ℕ) → Pass A M B 0 R₀ → Together N R₀ R → Pass A M B N R
+pass-own {A} {B} {M} {R₀} N R passed together =
+    record {
+      α = passed .α;
+      β = passed .β;
+      unifier = passed .unifier;
+      result = marks-for {P = λ v. Has N v ⊎ Has R₀ v} R (λ y. (⊎-elim inl (out y), ⊎-map (λ h. h) (λ k. passed .result y .1 (inr k)))) together;
+    }
+  where
+    out : (y : ℕ) → Has R₀ y → Marked A M B N (passed .α) (passed .β) y
+    out y h = ⊎-elim (λ z. absurd (has-none y z)) inr (passed .result y .0 h)
+
+-- marks pass from an atom's variables alone, so that marks kept to these pass the same
+pub pass-kept : {A B : Term} {N R : ℕ} (M q : ℕ) → Kept (λ v. Occ v A) M q → Pass A q B N R → Pass A M B N R
+pass-kept {A} {B} {N} {R} M q kept passed =
+    record {
+      α = passed .α;
+      β = passed .β;
+      unifier = passed .unifier;
+      result = marks-for R (λ y. (⊎-map (λ h. h) (λ k. (k .0, known-all q M (λ z. more z) y (k .1))), ⊎-map (λ h. h) (λ k. (k .0, known-all M q (λ z. fewer z) y (k .1))))) (passed .result);
+    }
+  where
+    more : (z : ℕ) → Known A q (passed .α) z → Known A M (passed .α) z
+    more z k = (k .0, k .1, kept (k .0) .0 (k .2) .1, k .3)
+
+    fewer : (z : ℕ) → Known A M (passed .α) z → Known A q (passed .α) z
+    fewer z k = (k .0, k .1, kept (k .0) .1 (k .1, k .2), k .3)
+
+    known-all : (M M′ : ℕ) → ((z : ℕ) → Known A M (passed .α) z → Known A M′ (passed .α) z) → (y : ℕ)
+        → All (Known A M (passed .α)) (passed .β y) → All (Known A M′ (passed .α)) (passed .β y)
+    known-all M M′ same y a =
+        occ-all (Known A M′ (passed .α)) (passed .β y) (λ z o. same z (all-occ (Known A M (passed .α)) (passed .β y) a z o))
+
+module _ {table : List ℕ} {since old newest slot : ℕ} (w : ToShape table since old newest slot) where
+  pub to-shape-below : w .s < maxShapes
+  to-shape-below = shape-below (w .setting) (w .nth-shape)
+
+  -- a row of the shape's call slot is a call row of it
+  pub call-there : (r : ℕ) → r < old → slotAt table r ≡ w .s → RowsIn (w .p) (keysOf table old) (call (w .s) (maskAt table r))
+  call-there r h e =
+      let there = at-slot (w .p) table (w .heads) since old (w .chains) old r (omega arith) h in
+      let is : rowAt (w .p) (slotAt table r) (maskAt table r) ≡ call (w .s) (maskAt table r) =
+      rw e (call-at (w .p) (w .s) (maskAt table r) (omega (arith, to-shape-below))) in
+      subst (RowsIn (w .p) (keysOf table old)) is there
+
+  pub solution-key : (R : ℕ) → rowKey slot R ≡ keyOf (w .p) (solution (w .s) R)
+  solution-key R = rw (w .slot-is) refl
+
+  module _ (mask q : ℕ) (passes : PassesTo w mask q) where
+    abbrev head : HeadMark (w .p) table 0 old (w .k) (length (w .c .body)) q
+    head = passes .marks
+
+    -- what passes to a call row with marks C of its own
+    pub passes-own : (C R : ℕ) → Together C mask R → Pass (w .c .head) q (w .S) C R
+    passes-own C R together = pass-own C R (passes .passed) together
+
+    -- so the row is given by rule 3
+    pub solution-given : (C R : ℕ) → RowsIn (w .p) (keysOf table old) (call (w .s) C) → Together C mask R → Given (w .p) (keysOf table old) (rowKey slot R)
+    solution-given C R there together =
+        let reached = new-reached modes (w .p) (RowsIn (w .p) (keysOf table 0)) (RowsIn (w .p) (keysOf table old)) (w .k) (length (w .c .body)) (head .N) (head .reached) in
+        let same = nth-same (head .nth-clause) (w .nth-clause) in
+        let kept : Kept (λ v. Occ v (w .c .head)) (head .N) q = subst (λ (c : Clause). Kept (λ v. Occ v (c .head)) (head .N) q) same (head .kept) in (
+          solution (w .s) R,
+          solves (w .nth-clause) reached (w .nth-shape) there (pass-kept (head .N) q kept (passes-own C R together)),
+          solution-key R,
+        )

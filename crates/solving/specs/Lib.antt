@@ -1,0 +1,2 @@
+-- What rule 3 asks for and adds.
+pub mod Solving

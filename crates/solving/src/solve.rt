@@ -1,0 +1,159 @@
+// Rule 3: "For *every* call row whose shape unifies with H, H passes its marks to that shape, which keeps the call's own marks."
+use directory::layout::CLAUSE_CELLS;
+use directory::layout::CLAUSE_HEAD;
+use directory::layout::CLAUSE_VARS;
+use directory::layout::PREDICATE_SHAPE;
+use directory::layout::SHAPE_NEXT;
+use directory::layout::SHAPE_VARS;
+use marks::rows::together;
+use rows::maskset::contains;
+use rows::row::before_at;
+use rows::row::mask_at;
+use rows::store::add;
+use steps::meet::first_variables;
+use steps::meet::meet;
+use steps::meet::narrow;
+use steps::meet::passed;
+use steps::place::Round;
+use steps::place::SOLUTIONS;
+use terms::walk::wide;
+ghost use Prim.Native.Nat.{ℕ, _≤_};
+ghost use Rattle.rows.specs.Rows.{keysOf};
+ghost use Rattle.table.specs.RoundKeys.{Keyed};
+ghost use Rattle.steps.specs.Situation.{Situation};
+ghost use Rattle.steps.specs.Steps.{Writable, Stepped};
+ghost use Rattle.steps.specs.Heads.{Solved, SolveAsked};
+ghost use Rattle.solving.specs.Solving.{ToShape, PassesTo, SolvedBy, SolvedBelow, ShapeSets, FoundFor, CallsAsked, ShapeAsked};
+
+// All call rows of one shape keep their own marks beside those that the head passes.
+fn solve_calls(
+    table: &mut [u16],
+    buckets: &mut [u16],
+    n: usize,
+    at: Round,
+    newest: usize,
+    slot: u16,
+    mask: u16,
+) -> usize
+    requires { ⌜ CallsAsked (now table) (at .since) (at .rows) newest slot mask × Writable (now table) (now buckets) n (at .room) × (at .rows ≤ n) ⌝ }
+    ensures { λ r. ⌜ ((w : ToShape (now (table .entry)) (at .since) (at .rows) newest slot) (q : ℕ) → PassesTo w mask q
+        → Stepped (w .p) (keysOf (now (table .entry)) (at .rows)) (at .number) (at .room) n (now (table .entry)) (now (buckets .entry))
+        (Keyed (w .p) (SolvedBy w q)) r (now (table .exit)) (now (buckets .exit))) ⌝ }
+{
+    let number = at.number;
+    let room = at.room;
+    let mut rows = n;
+    let mut link = newest;
+    while 0 < link {
+        let row = link - 1;
+        let own = mask_at(table, row);
+        rows = add(
+            table,
+            buckets,
+            rows,
+            room,
+            number,
+            slot,
+            together(own, mask),
+        );
+        if room < rows {
+            return rows;
+        }
+        link = before_at(table, row);
+    }
+    rows
+}
+
+// The marks on the head that the set has, to one shape.
+fn solve_shape(
+    table: &mut [u16],
+    buckets: &mut [u16],
+    n: usize,
+    at: Round,
+    newest: usize,
+    slot: u16,
+    sets: &[u32; 32],
+    here: u16,
+    there: u16,
+    found: &[u16],
+    marks: usize,
+) -> usize
+    requires { ⌜ ShapeAsked (now table) (now sets) (now found) (at .since) (at .rows) newest slot here there marks × Writable (now table) (now buckets) n (at .room) × (at .rows ≤ n) ⌝ }
+    ensures { λ r. ⌜ ((w : ToShape (now (table .entry)) (at .since) (at .rows) newest slot) → ShapeSets w (now (sets .entry)) here there → FoundFor w (now (found .entry))
+        → Stepped (w .p) (keysOf (now (table .entry)) (at .rows)) (at .number) (at .room) n (now (table .entry)) (now (buckets .entry))
+        (Keyed (w .p) (SolvedBelow w (now (found .entry)) marks)) r (now (table .exit)) (now (buckets .exit))) ⌝ }
+{
+    let room = at.room;
+    let mut rows = n;
+    let mut q = 0;
+    while q < marks {
+        if contains(found, narrow(q)) {
+            let r = passed(sets, 16, narrow(q), there, 0, here);
+            if 65535 < r {
+                return room + 2;
+            }
+            rows = solve_calls(table, buckets, rows, at, newest, slot, r as u16);
+            if room < rows {
+                return rows;
+            }
+        }
+        q += 1;
+    }
+    rows
+}
+
+// The marks on the head of clause k, to every shape that has a call row.
+pub fn solve<'a>(
+    words: &'a [u16],
+    dir: &'a [u16],
+    table: &mut [u16],
+    buckets: &mut [u16],
+    heads: &[u16],
+    n: usize,
+    at: Round,
+    k: usize,
+    found: &[u16],
+) -> usize
+    requires { ⌜ SolveAsked (now words) (now dir) (now table) (now heads) (now found) (at .since) (at .rows) k × Writable (now table) (now buckets) n (at .room) × (at .rows ≤ n) ⌝ }
+    ensures { λ r. ⌜ ((w : Situation (now (words .entry)) (now (dir .entry)) (now (table .entry)) (now (heads .entry)) (at .since) (at .rows))
+        → Stepped (w .p) (keysOf (now (table .entry)) (at .rows)) (at .number) (at .room) n (now (table .entry)) (now (buckets .entry))
+        (Keyed (w .p) (Solved (w .p) (now (table .entry)) (at .rows) k (now (found .entry)))) r (now (table .exit)) (now (buckets .exit))) ⌝ }
+{
+    let room = at.room;
+    let start = wide(dir[CLAUSE_HEAD + k]);
+    let cells = wide(dir[CLAUSE_CELLS + k]);
+    let vars = wide(dir[CLAUSE_VARS + k]);
+    let there = first_variables(vars);
+    let marks = 1usize << vars;
+    let mut sets = [0u32; 32];
+    let mut rows = n;
+    let mut link = wide(dir[PREDICATE_SHAPE + wide(words[start])]);
+    while 0 < link {
+        let s = link - 1;
+        let newest = wide(heads[s]);
+        if 0 < newest {
+            if meet(words, dir, s, start, cells, &mut sets) {
+                let here = first_variables(wide(dir[SHAPE_VARS + s]));
+                let slot = narrow(SOLUTIONS + s);
+                rows = solve_shape(
+                    table,
+                    buckets,
+                    rows,
+                    at,
+                    newest,
+                    slot,
+                    &sets,
+                    here,
+                    there,
+                    found,
+                    marks,
+                );
+                if room < rows {
+                    return rows;
+                }
+            }
+        }
+        link = wide(dir[SHAPE_NEXT + s]);
+    }
+    rows
+}

@@ -1,0 +1,12 @@
+-- The laws of the meeting of two atoms, and of rows that a step adds.
+pub mod Stepping
+pub mod SlotRows
+pub mod ShapeAtoms
+pub mod Meetings
+pub mod FirstVariables
+pub mod Appearance
+pub mod Bodies
+pub mod Emitting
+pub mod BodyAtoms
+pub mod ShapeLinks
+pub mod MarkedSets

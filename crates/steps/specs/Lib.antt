@@ -1,0 +1,5 @@
+-- What a step of the analysis finds, keeps and adds.
+pub mod Steps
+pub mod Situation
+pub mod Since
+pub mod Heads

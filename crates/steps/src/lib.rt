@@ -1,0 +1,4 @@
+// What one step of the analysis leans on: two atoms that meet, rows put in their place, and whether a row is new.
+pub mod meet;
+pub mod place;
+pub mod since;

@@ -1,0 +1,98 @@
+// A shape and an atom of the words: whether they unify, and the sets of their unifier.
+use directory::layout::CLAUSES_START;
+use directory::layout::FUNCTIONS_START;
+use directory::layout::PREDICATES_START;
+use directory::layout::SHAPE_CELLS;
+use directory::layout::SHAPE_START;
+use marks::pass::Passed;
+use marks::pass::pass_on;
+use terms::unifier::unify;
+use terms::walk::FIRST_VARIABLE;
+use terms::walk::wide;
+ghost use mathlib.Core.Path.{_≡_};
+ghost use Prim.Native.Nat.{_+_, _-_, _^_, _≤_, _<_};
+ghost use lib.ListN.{length};
+ghost use Rattle.terms.specs.Mask.{Marks};
+ghost use Rattle.terms.specs.Term.{Term};
+ghost use Rattle.marks.specs.Modes.{InOrder};
+ghost use Rattle.marks.specs.Passing.{MarkedIn};
+ghost use Rattle.program.specs.Shapes.{number};
+ghost use Rattle.steps.specs.Situation.{Meeting, Met, AnAtom, AtomRun};
+
+// A number as a word.
+pub fn narrow(x: usize) -> u16
+    requires { ⌜ x < 65536 ⌝ }
+    ensures { λ r. ⌜ r ≡ x ⌝ }
+{
+    x as u16
+}
+
+// The shape is the first atom, the atom at so many words from the start on the second.
+pub fn meet<'a>(
+    words: &'a [u16],
+    dir: &'a [u16],
+    shape: usize,
+    start: usize,
+    cells: usize,
+    sets: &mut [u32; 32],
+) -> bool
+    requires { ⌜ Meeting (now words) (now dir) shape start cells ⌝ }
+    ensures { λ r. ⌜ ((m : Meeting (now (words .entry)) (now (dir .entry)) shape start cells) → Met (m .S) (m .A) r (now (sets .exit))) ⌝ }
+{
+    let from = SHAPE_CELLS + wide(dir[SHAPE_START + shape]);
+    let to = SHAPE_CELLS + wide(dir[SHAPE_START + shape + 1]);
+    let end = start + cells;
+    let functions = wide(dir[FUNCTIONS_START]);
+    let clauses = wide(dir[CLAUSES_START]);
+    let mut places = [0u8; 32];
+    unify(
+        &dir[from..to],
+        &words[start..end],
+        &words[PREDICATES_START..functions],
+        &words[functions..clauses],
+        &mut places,
+        sets,
+    )
+}
+
+// The marks that pass, or 65,536 where a mark comes out neither any nor ground.
+pub fn passed(sets: &[u32; 32], from: usize, m: u16, here: u16, to: usize, there: u16) -> u32
+    requires { ⌜ (from ≤ 16) × (to ≤ 16) ⌝ }
+    ensures { λ r. ⌜ (r < 65536) × Marks (MarkedIn (now (sets .entry)) from m here to 0 there) r ⌝ }
+{
+    match pass_on(sets, from, m, here, to, 0, there) {
+        Passed::Mask(r) => r as u32,
+        Passed::Neither => 65536,
+    }
+}
+
+// The marks of the first so many variables.
+pub fn first_variables(count: usize) -> u16
+    requires { ⌜ count ≤ 16 ⌝ }
+    ensures { λ r. ⌜ (r < 65536) × Marks (λ v. v < count) r ⌝ }
+{
+    ((1u32 << count) - 1) as u16
+}
+
+// The variables of an atom by first appearance, and how many there are.
+pub fn order_of(atom: &[u16], order: &mut [u8; 16]) -> usize
+    requires { ⌜ AnAtom (now atom) × (length (now order) ≡ 16) ⌝ }
+    ensures { λ r. ⌜ (r ≤ 16) × ((A : Term) → AtomRun (now (atom .entry)) A → InOrder A (number A) (now (order .exit)) r) ⌝ }
+{
+    let mut met = 0u32;
+    let mut count = 0;
+    let mut i = 0;
+    while i < atom.len() {
+        let cell = atom[i];
+        if FIRST_VARIABLE <= cell {
+            let v = wide(cell - FIRST_VARIABLE);
+            if !terms::walk::has(met, v) {
+                met = met | terms::walk::only(v);
+                order[count] = v as u8;
+                count += 1;
+            }
+        }
+        i += 1;
+    }
+    count
+}
