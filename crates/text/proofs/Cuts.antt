@@ -2,11 +2,11 @@
 use Prim.Native.Nat.{ℕ, zero, suc, _+_, _-_, _≤_, _<_}
 use mathlib.Core.Path.{_≡_, refl, sym, ap, _∙_}
 use mathlib.Core.Bool.{Bool, true, false, cond}
-use mathlib.Core.List.{List, [], _∷_, _++_}
+use mathlib.Core.List.{List, [], _∷_, _++_, append-nil, append-assoc}
 use mathlib.Core.Logic.{_⊎_, inl, inr}
 use native.Mathlib.Omega.{arith}
 use lib.ListN.{length, getD, take, drop, length-drop, drop-of-length-le}
-use lib.Seq.{drop-cons, drop-drop, take-all}
+use lib.Seq.{drop-cons, drop-drop, take-all, take-suc}
 use lib.Dec.{eqb}
 use borrow.Author.Tests.{eq-eqb, ne-eqb, lt-ltb, le-ltb}
 use native.Mathlib.Decide.{decLt}
@@ -20,6 +20,20 @@ module _ (b : ℕ) (s : List ℕ) (i : ℕ) (h : i < length s) where
   -- the search goes past another byte
   pub upTo-past : (getD s i 0 ≡ b → ⊥) → length (upTo b (drop i s)) ≡ suc (length (upTo b (drop (suc i) s)))
   upTo-past n = rw (drop-cons s i 0 h, ne-eqb (getD s i 0) b n)
+
+-- the bytes before place i are no separators: so they stand before it, with those from place i on that do
+abbrev pub Passed : ℕ → List ℕ → ℕ → Type 0
+Passed b s i = upTo b s ≡ take i s ++ upTo b (drop i s)
+
+module _ (b : ℕ) (s : List ℕ) (i : ℕ) (passed : Passed b s i) where
+  pub passed-here : i < length s → getD s i 0 ≡ b → upTo b s ≡ take i s
+  passed-here h e = passed ∙ rw (upTo-here b s i h e) (append-nil (take i s))
+
+  pub passed-more : i < length s → (getD s i 0 ≡ b → ⊥) → Passed b s (suc i)
+  passed-more h n = passed ∙ rw (take-suc s i 0 h, drop-cons s i 0 h, ne-eqb (getD s i 0) b n) (sym (append-assoc (take i s) (getD s i 0 ∷ []) (upTo b (drop (suc i) s))))
+
+  pub passed-all : length s ≤ i → upTo b s ≡ take i s
+  passed-all h = passed ∙ rw (drop-of-length-le s h) (append-nil (take i s))
 
 -- what stands before the separator is a front of the bytes
 pub upTo-take : (b : ℕ) (s : List ℕ) → take (length (upTo b s)) s ≡ upTo b s

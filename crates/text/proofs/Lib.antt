@@ -3,3 +3,5 @@ pub mod Cuts
 pub mod Rooms
 pub mod Tokens
 pub mod Names
+pub mod Decimals
+pub mod Puts

@@ -4,7 +4,7 @@ use mathlib.Core.Path.{_≡_, refl, sym, ap, ap₂, _∙_}
 use mathlib.Core.Bool.{Bool, true, false, cond, _&&_}
 use mathlib.Core.List.{List, [], _∷_, _++_}
 use native.Mathlib.Omega.{arith}
-use lib.ListN.{length, getD, take, drop, drop-of-length-le}
+use lib.ListN.{length, getD, take, drop, drop-of-length-le, length-take, length-drop}
 use lib.Seq.{drop-cons, getD-take, getD-drop}
 use lib.Dec.{eqb}
 use borrow.Author.Tests.{eq-eqb, ne-eqb, eqb-true}
@@ -76,3 +76,6 @@ module _ (names key : List ℕ) (i to : ℕ) where
 
   pub seek-ends : to ≤ i → seek names key i (to - i) ≡ i
   seek-ends h = let n : to - i ≡ 0 = omega arith in rw n
+
+pub length-entry : (names : List ℕ) (i : ℕ) → i * nameBytes + nameBytes ≤ length names → length (entry names i) ≡ nameBytes
+length-entry names i h = simp (length-take, length-drop) (omega arith)

@@ -4,7 +4,9 @@ use mathlib.Core.Path.{_≡_, refl, sym, ap, _∙_}
 use mathlib.Core.List.{List, [], _∷_, _++_}
 use native.Mathlib.Omega.{arith}
 use native.Mathlib.Nat.{zero-sub, sub-zero, suc-sub-suc}
-use lib.ListN.{length, getD, take, drop, set, replicate}
+use native.Mathlib.Numerals.{add-one}
+use lib.ListN.{length, getD, take, drop, set, replicate, length-set}
+use lib.Seq.{take-suc-set, take-all}
 use Rattle.text.specs.Room.{inRoom}
 
 pub length-inRoom : (n : ℕ) (xs : List ℕ) → length (inRoom n xs) ≡ n
@@ -59,3 +61,19 @@ pub inRoom-take : (n : ℕ) (xs : List ℕ) → inRoom n (take n xs) ≡ inRoom 
 inRoom-take zero xs = refl
 inRoom-take (suc n) [] = refl
 inRoom-take (suc n) (x ∷ xs) = ap (λ (l : List ℕ). x ∷ l) (inRoom-take n xs)
+
+-- zeros from a place on, written one by one
+inRoom-zero : (n : ℕ) (xs : List ℕ) → inRoom n (xs ++ 0 ∷ []) ≡ inRoom n xs
+inRoom-zero zero xs = refl
+inRoom-zero (suc n) [] = refl
+inRoom-zero (suc n) (x ∷ xs) = ap (λ (l : List ℕ). x ∷ l) (inRoom-zero n xs)
+
+pub cleared-more : (l : List ℕ) (i : ℕ) → i < length l → inRoom (length (set l i 0)) (take (i + 1) (set l i 0)) ≡ inRoom (length l) (take i l)
+cleared-more l i h = rw (length-set, add-one, take-suc-set l i 0 h) (inRoom-zero (length l) (take i l))
+
+inRoom-all : (l : List ℕ) → inRoom (length l) l ≡ l
+inRoom-all [] = refl
+inRoom-all (x ∷ xs) = ap (λ (l : List ℕ). x ∷ l) (inRoom-all xs)
+
+pub cleared-all : (l : List ℕ) (i : ℕ) → length l ≤ i → l ≡ inRoom (length l) (take i l)
+cleared-all l i h = rw (take-all i l h) (sym (inRoom-all l))

@@ -3,3 +3,5 @@ pub mod Room
 pub mod Line
 pub mod Token
 pub mod Name
+pub mod Decimal
+pub mod Put

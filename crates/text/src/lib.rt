@@ -2,4 +2,5 @@
 pub mod bytes;
 pub mod cut;
 pub mod name;
+pub mod put;
 pub mod token;

@@ -1,5 +1,5 @@
 -- The tokens and lines that a program is written in.
-use Prim.Native.Nat.{ℕ, _+_, _-_, _/_, _%_}
+use Prim.Native.Nat.{ℕ, _+_, _-_}
 use mathlib.Core.Bool.{Bool, cond}
 use mathlib.Core.List.{List, [], _∷_, _++_, map}
 use lib.ListN.{getD}
@@ -8,13 +8,10 @@ use Rattle.terms.specs.Term.{Term}
 use Rattle.terms.specs.Cells.{enc, firstVariable}
 use Rattle.program.specs.Limits.{groundMode}
 use Rattle.text.specs.Line.{tab, lineFeed}
-use Rattle.text.specs.Token.{digit0, upperV, upperG}
+use Rattle.text.specs.Token.{upperV, upperG}
+use Rattle.text.specs.Decimal.{decimal}
 use Rattle.text.specs.Name.{entry}
 use Rattle.writer.specs.Names.{nameIn}
-
--- "Numbers have no leading zero." No number here has more than two digits.
-abbrev pub decimal : ℕ → List ℕ
-decimal n = cond (ltb n 10) ((digit0 + n) ∷ []) ((digit0 + n / 10) ∷ (digit0 + n % 10) ∷ [])
 
 abbrev pub symbolToken : List ℕ → ℕ → List ℕ
 symbolToken names n = nameIn (entry names n)

@@ -11,10 +11,11 @@ use Rattle.program.specs.Faults.{Found, fault, sound, faults}
 use Rattle.program.specs.Reply.{noRoom, refused, done}
 use Rattle.program.specs.declared.reply.Reply.{Reply}
 use Rattle.text.specs.Room.{inRoom}
+use Rattle.text.specs.Decimal.{decimal}
 use Rattle.reader.specs.Keyword.{pred, func, clause, query}
 use Rattle.reader.specs.Table.{Read, wrong, right, next}
 use Rattle.writer.specs.Names.{namesOf}
-use Rattle.writer.specs.Tokens.{decimal, symbolToken, atomTokens, atomsTokens, line}
+use Rattle.writer.specs.Tokens.{symbolToken, atomTokens, atomsTokens, line}
 
 -- the declarations of one kind, whose first name has number i
 abbrev pub declarations : List ℕ → List ℕ → ℕ → List ℕ → List ℕ
