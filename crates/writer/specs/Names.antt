@@ -4,7 +4,8 @@ use mathlib.Core.Bool.{Bool, cond, _&&_}
 use mathlib.Core.List.{List, [], _∷_}
 use lib.ListN.{length}
 use lib.Dec.{eqb, ltb}
-use Rattle.program.specs.Reply.{tooSoon, follows, badName}
+use Rattle.program.specs.Reply.{tooSoon, follows, badName, refused, done}
+use Rattle.program.specs.declared.reply.Reply.{Reply}
 use Rattle.text.specs.Line.{upTo}
 use Rattle.text.specs.Token.{isName}
 use Rattle.text.specs.Name.{nameBytes, padded, entry, same, seek}
@@ -38,3 +39,8 @@ abbrev pub namesOf : List ℕ → ℕ → ℕ → Read (List ℕ)
 namesOf names predicates symbols =
     cond (ltb (length names) (symbols * nameBytes)) (wrong tooSoon (length names))
     (cond (ltb (symbols * nameBytes) (length names)) (wrong follows (symbols * nameBytes)) (eachName names predicates 0 symbols))
+
+-- the reply of the names alone: nothing is written
+abbrev pub namesReply : Read (List ℕ) → Reply
+namesReply (wrong number place) = refused number place
+namesReply (right names) = done 0

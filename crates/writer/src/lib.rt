@@ -1,1 +1,2 @@
 // From an encoded program with names to scenario text.
+pub mod names;

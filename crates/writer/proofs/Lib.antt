@@ -1,0 +1,2 @@
+-- Laws of the crate that belong to no one function.
+pub mod NameChecks

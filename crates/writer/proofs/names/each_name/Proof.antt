@@ -1,0 +1,91 @@
+-- `writer::names::each_name` meets its contract. The loop's invariant: the names from `i` on decide, and those before have their marks. Assumes nothing.
+use Prim.Native.Nat.{ℕ, _-_, _≤_, _<_}
+use mathlib.Core.Path.{_≡_, refl, sym, ap, _∙_}
+use native.Mathlib.Omega.{arith}
+use native.Mathlib.Numerals.{add-one}
+use lib.ListN.{length, length-set}
+use borrow.Author.Tests.{not-true, not-false}
+use Rattle.text.specs.Name.{maxNames, Marked}
+use Rattle.writer.specs.Names.{eachName, namesReply}
+use Rattle.writer.proofs.NameChecks.{marked-more, each-stops, each-goes-on, each-ends}
+use Rattle.writer.proofs.names.each_name.Statement.{statement}
+use Rattle.writer.proofs.names.each_name.Tie as tie
+
+abbrev Inv-loop : tie.InvT-loop
+Inv-loop names predicates symbols marks₀ i₀ marks i =
+    (i ≤ symbols) × (length marks ≡ maxNames) × Marked names marks 0 i × (eachName names predicates 0 symbols ≡ eachName names predicates i (symbols - i))
+
+abbrev μ-loop : tie.MeasureT-loop
+μ-loop names predicates symbols marks₀ i₀ marks i = symbols - i
+
+loop-holds : tie.Need-loop-holds Inv-loop μ-loop
+loop-holds c =
+    let a = c .before .args in
+    let n : a .symbols ≡ a .symbols - 0 = omega arith in
+    (omega arith, refl, λ k l h. absurd (omega arith), ap (eachName (a .names .now) (a .predicates) 0) n)
+
+slice-aggregate-is-sound : tie.Need-slice-aggregate-is-sound Inv-loop μ-loop
+slice-aggregate-is-sound c = sym (c .before .before .loop .inv .1)
+
+is-sound-requires : tie.Need-is-sound-requires Inv-loop μ-loop
+is-sound-requires c κs = (omega arith, omega arith, c .before .before .loop .inv .1)
+
+mul-t10 : tie.Need-mul-t10 Inv-loop μ-loop
+mul-t10 c = omega arith
+
+returns : tie.Need-returns Inv-loop μ-loop
+returns c =
+    let l = c .before .before .before .before in
+    let a = l .before .before .args in
+    sym (ap namesReply (l .loop .inv .3 ∙ each-stops (a .names .now) (a .predicates) (l .loop .i) (a .symbols) (omega arith) (sym (c .before .is-sound .ensures (l .loop .inv .2)) ∙ not-true _ (c .if1 .taken))))
+
+mark-at-requires : tie.Need-mark-at-requires Inv-loop μ-loop
+mark-at-requires c κs = (omega arith, omega arith)
+
+mul-marks : tie.Need-mul-marks Inv-loop μ-loop
+mul-marks c = omega arith
+
+array-write-marks : tie.Need-array-write-marks Inv-loop μ-loop
+array-write-marks c = omega arith
+
+add-i : tie.Need-add-i Inv-loop μ-loop
+add-i c = omega arith
+
+loop-less : tie.Need-loop-less Inv-loop μ-loop
+loop-less c = omega arith
+
+loop-again : tie.Need-loop-again Inv-loop μ-loop
+loop-again c =
+    let l = c .before .before .before .before .before in
+    let a = l .before .before .args in
+    let i = l .loop .i in (
+      omega arith,
+      length-set (l .loop .marks) i (c .mark-at .result) ∙ l .loop .inv .1,
+      marked-more (a .names .now) (l .loop .marks) i (c .mark-at .result) (omega arith) (c .mark-at .ensures) (l .loop .inv .2),
+      rw add-one (l .loop .inv .3 ∙ each-goes-on (a .names .now) (a .predicates) i (a .symbols) (omega arith) (sym (c .before .before .is-sound .ensures (l .loop .inv .2)) ∙ not-false _ (c .before .if1 .left))),
+    )
+
+returns-2 : tie.Need-returns-2 Inv-loop μ-loop
+returns-2 c =
+    let l = c .before in
+    let a = l .before .before .args in
+    sym (ap namesReply (l .loop .inv .3 ∙ each-ends (a .names .now) (a .predicates) (l .loop .i) (a .symbols) (omega arith)))
+
+pub each-name-spec : {M : Type 1} → statement M
+each-name-spec =
+    tie.close
+    (tie.spec
+    Inv-loop
+    μ-loop
+    loop-holds
+    slice-aggregate-is-sound
+    is-sound-requires
+    mul-t10
+    returns
+    mark-at-requires
+    mul-marks
+    array-write-marks
+    add-i
+    loop-less
+    loop-again
+    returns-2)

@@ -1,0 +1,71 @@
+-- `writer::names::is_entry` meets its contract: the bytes before the first zero are the name. Assumes nothing.
+use Prim.Native.Nat.{ℕ}
+use mathlib.Core.Path.{_≡_, sym, ap, _∙_}
+use mathlib.Core.Bool.{_&&_}
+use mathlib.Core.List.{List}
+use native.Mathlib.Omega.{arith}
+use lib.ListN.{length, take}
+use lib.Seq.{length-take-le}
+use borrow.Author.Needs.{needs}
+use borrow.Author.Tests.{not-true, not-false}
+use Rattle.text.specs.Name.{padded, same}
+use Rattle.text.specs.Token.{isName}
+use Rattle.text.proofs.Cuts.{upTo-short}
+use Rattle.writer.specs.Names.{nameIn}
+use Rattle.writer.proofs.NameChecks.{name-front}
+use Rattle.writer.proofs.names.is_entry.Statement.{statement}
+use Rattle.writer.proofs.names.is_entry.Tie as tie
+
+find-requires : tie.Need-find-requires
+find-requires c κs = search needs
+
+slice-aggregate-is-name : tie.Need-slice-aggregate-is-name
+slice-aggregate-is-name c =
+    let key = c .before .before .before .args .key .now in
+    let s = upTo-short 0 key in
+    sym (length-take-le (c .before .find .result) key (omega (arith, c .before .find .ensures)))
+
+is-name-requires : tie.Need-is-name-requires
+is-name-requires c κs = search needs
+
+returns : tie.Need-returns
+returns c =
+    let key = c .before .before .before .before .before .args .key .now in
+    let front = name-front key (c .before .before .before .find .result) (c .before .before .before .find .ensures) in
+    rw (sym (ap isName front) ∙ sym (c .before .is-name .ensures) ∙ not-true _ (c .if1 .taken))
+
+slice-aggregate-pad : tie.Need-slice-aggregate-pad
+slice-aggregate-pad c =
+    let key = c .before .before .before .before .before .before .args .key .now in
+    let s = upTo-short 0 key in
+    sym (length-take-le (c .before .before .before .before .find .result) key (omega (arith, c .before .before .before .before .find .ensures)))
+
+pad-requires : tie.Need-pad-requires
+pad-requires c κs = search needs
+
+slice-aggregate-same-bytes : tie.Need-slice-aggregate-same-bytes
+slice-aggregate-same-bytes c = search needs
+
+same-bytes-requires : tie.Need-same-bytes-requires
+same-bytes-requires c κs = search needs
+
+returns-2 : tie.Need-returns-2
+returns-2 c =
+    let key = c .before .before .before .before .before .before .before .before .before .args .key .now in
+    let front = name-front key (c .before .before .before .before .before .before .before .find .result) (c .before .before .before .before .before .before .before .find .ensures) in
+    rw (sym (ap isName front) ∙ sym (c .before .before .before .before .before .is-name .ensures) ∙ not-false _ (c .before .before .before .before .if1 .left))
+    (c .same-bytes .ensures ∙ ap (λ (l : List ℕ). same l key) (c .before .before .pad .ensures ∙ ap padded front))
+
+pub is-entry-spec : {M : Type 1} → statement M
+is-entry-spec =
+    tie.close
+    (tie.spec
+    find-requires
+    slice-aggregate-is-name
+    is-name-requires
+    returns
+    slice-aggregate-pad
+    pad-requires
+    slice-aggregate-same-bytes
+    same-bytes-requires
+    returns-2)
