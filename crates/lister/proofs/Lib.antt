@@ -1,0 +1,4 @@
+-- Laws of the crate that belong to no one function.
+pub mod ListedOnce
+pub mod Samples
+pub mod LetterLaws

@@ -1,0 +1,136 @@
+-- The promise of the lister: no second reply, table or listing meets it, and for every input and every room some do.
+use Prim.Native.Nat.{ℕ, zero, suc, _*_, _≤_, _<_}
+use mathlib.Core.Bool.{Bool, true, false, cond}
+use lib.Dec.{ltb}
+use native.Mathlib.Omega.{arith}
+use native.Mathlib.Decide.{decLe}
+use mathlib.Core.Path.{_≡_, refl, sym, ap, _∙_}
+use mathlib.Core.List.{List}
+use lib.ListN.{length, replicate}
+use Rattle.program.specs.Program.{Program}
+use Rattle.program.specs.Faults.{Found, fault, sound, faults}
+use Rattle.program.specs.Reply.{accepted, tooSoon, follows, noRoom, badName, refused, done}
+use Rattle.program.specs.declared.reply.Reply.{Reply}
+use Rattle.table.specs.Table.{Entry, TableOf, Promise, faulty as promise-faulty, listed as promise-listed, full, unmarked}
+use Rattle.table.proofs.Promise.{fault-or-sound, sound-same, table-once, promise-unique, neither-never}
+use Rattle.table.proofs.PromiseMet.{promise-met}
+use Rattle.text.specs.Name.{nameBytes}
+use Rattle.text.specs.Room.{inRoom}
+use Rattle.writer.specs.Names.{isSound, eachName, namesOf}
+use Rattle.reader.specs.Table.{Read, wrong, right}
+use Rattle.lister.specs.Listing.{listingOf}
+use Rattle.lister.specs.Listed.{namesFor, Refused, Rows, Listed, faulty, misnamed, unlisted, over, listed}
+
+-- one number and one place make one refusal
+refused-once : {size room number place : ℕ} {r r′ : Reply} {t t′ o o′ : List ℕ} → Refused size room number place r t o → Refused size room number place r′ t′ o′
+    → (r ≡ r′) × (t ≡ t′) × (o ≡ o′)
+refused-once a b = (a .reply-is ∙ sym (b .reply-is), a .table-zero ∙ sym (b .table-zero), a .out-zero ∙ sym (b .out-zero))
+
+-- names are sound or not
+wrong-or-right : {A : Type 0} {number place : ℕ} {a : A} (x : Read A) → x ≡ wrong number place → x ≡ right a → ⊥
+wrong-or-right x d e = let z : _≡_ {A = ℕ} 0 1 = cc in omega arith
+
+-- what is right of the names are the names
+each-kept : (names : List ℕ) {ns : List ℕ} (predicates i n : ℕ) → eachName names predicates i n ≡ right ns → ns ≡ names
+each-kept names predicates i zero e = cc
+each-kept names {ns} predicates i (suc n) e = at (isSound names predicates i) (each-kept names predicates (suc i) n) e
+  where
+    at : {x : Read (List ℕ)} (b : Bool) → (x ≡ right ns → ns ≡ names) → cond b x (wrong badName (i * nameBytes)) ≡ right ns → ns ≡ names
+    at true next e = next e
+    at false next e = absurd (wrong-or-right _ refl e)
+
+pub names-kept : (names : List ℕ) {ns : List ℕ} (predicates symbols : ℕ) → namesOf names predicates symbols ≡ right ns → ns ≡ names
+names-kept names {ns} predicates symbols e = at (ltb (length names) (symbols * nameBytes)) (ltb (symbols * nameBytes) (length names)) e
+  where
+    at : (a b : Bool) → cond a (wrong tooSoon (length names)) (cond b (wrong follows (symbols * nameBytes)) (eachName names predicates 0 symbols)) ≡ right ns → ns ≡ names
+    at true b e = absurd (wrong-or-right _ refl e)
+    at false true e = absurd (wrong-or-right _ refl e)
+    at false false e = each-kept names predicates 0 symbols e
+
+module _ (words names : List ℕ) (size room : ℕ) where
+  named-once : {p p′ : Program} {number place : ℕ} → faults words ≡ sound p → faults words ≡ sound p′ → namesFor p names ≡ wrong number place → namesFor p′ names ≡ right names → ⊥
+  named-once f f′ w n = wrong-or-right _ (rw (sound-same _ f f′) at w) n
+
+  -- the analysis is refused or not
+  refused-or-done : {number place : ℕ} {t t′ : List ℕ} (n : ℕ) → Promise words size (refused number place) t → Promise words size (done n) t′ → (number ≡ accepted → ⊥) → ⊥
+  refused-or-done n a b d = d (ap (λ (x : Reply). x .number) (promise-unique words size _ _ _ _ a b .0))
+
+  rows-once : {t t′ : List ℕ} {p p′ : Program} {es es′ : List Entry} → Rows words names size t p es → Rows words names size t′ p′ es′ → (p ≡ p′) × (es ≡ es′) × (t ≡ t′)
+  rows-once {es = es} {es′ = es′} a b =
+      let same = sound-same _ (a .program) (b .program) in
+      let one = table-once _ es es′ (rw same at (a .rows)) (b .rows) in
+      (same, one, promise-unique words size _ _ _ _ (a .analysed) (b .analysed) .1)
+
+  listing-once : {t t′ : List ℕ} {p p′ : Program} {es es′ : List Entry} → Rows words names size t p es → Rows words names size t′ p′ es′ → listingOf p names es ≡ listingOf p′ names es′
+  listing-once a b = let (d, e, _) = rows-once a b in rw (d, e)
+
+  over-or-listed : {t t′ : List ℕ} {p p′ : Program} {es es′ : List Entry} → Rows words names size t p es → Rows words names size t′ p′ es′
+      → room < length (listingOf p names es) → length (listingOf p′ names es′) ≤ room → ⊥
+  over-or-listed a b l m = let e = ap length (listing-once a b) in omega arith
+
+  -- "show that no second reply satisfies it": and no second table, and no second listing
+  pub listed-unique : (r r′ : Reply) (t t′ o o′ : List ℕ) → Listed words names size room r t o → Listed words names size room r′ t′ o′
+      → (r ≡ r′) × (t ≡ t′) × (o ≡ o′)
+  listed-unique r r′ t t′ o o′ (faulty n q f z) (faulty n′ q′ f′ z′) = refused-once z (same-fault (sym f ∙ f′) z′)
+    where
+      same-fault : fault n q ≡ fault n′ q′ → Refused size room n′ q′ r′ t′ o′ → Refused size room n q r′ t′ o′
+      same-fault e z = let a : n′ ≡ n = cc in let b : q′ ≡ q = cc in rw (a, b) at z
+  listed-unique r r′ t t′ o o′ (faulty n q f z) (misnamed p n′ q′ f′ w z′) = absurd (fault-or-sound _ f f′)
+  listed-unique r r′ t t′ o o′ (faulty n q f z) (unlisted p n′ q′ ze f′ w a d z′) = absurd (fault-or-sound _ f f′)
+  listed-unique r r′ t t′ o o′ (faulty n q f z) (over p es fu a l z′) = absurd (fault-or-sound _ f (a .program))
+  listed-unique r r′ t t′ o o′ (faulty n q f z) (listed p es a l e g) = absurd (fault-or-sound _ f (a .program))
+  listed-unique r r′ t t′ o o′ (misnamed p n q f w z) (faulty n′ q′ f′ z′) = absurd (fault-or-sound _ f′ f)
+  listed-unique r r′ t t′ o o′ (misnamed p n q f w z) (misnamed p′ n′ q′ f′ w′ z′) =
+      refused-once z (same-wrong (sym (rw (sound-same _ f f′) at w) ∙ w′) z′)
+    where
+      same-wrong : _≡_ {A = Read (List ℕ)} (wrong n q) (wrong n′ q′) → Refused size room n′ q′ r′ t′ o′ → Refused size room n q r′ t′ o′
+      same-wrong e z = let a : n′ ≡ n = cc in let b : q′ ≡ q = cc in rw (a, b) at z
+  listed-unique r r′ t t′ o o′ (misnamed p n q f w z) (unlisted p′ n′ q′ ze f′ w′ a d z′) = absurd (named-once f f′ w w′)
+  listed-unique r r′ t t′ o o′ (misnamed p n q f w z) (over p′ es fu a l z′) = absurd (named-once f (a .program) w (a .named))
+  listed-unique r r′ t t′ o o′ (misnamed p n q f w z) (listed p′ es a l e g) = absurd (named-once f (a .program) w (a .named))
+  listed-unique r r′ t t′ o o′ (unlisted p n q ze f w a d z) (faulty n′ q′ f′ z′) = absurd (fault-or-sound _ f′ f)
+  listed-unique r r′ t t′ o o′ (unlisted p n q ze f w a d z) (misnamed p′ n′ q′ f′ w′ z′) = absurd (named-once f′ f w′ w)
+  listed-unique r r′ t t′ o o′ (unlisted p n q ze f w a d z) (unlisted p′ n′ q′ ze′ f′ w′ a′ d′ z′) =
+      (z .reply-is ∙ promise-unique words size _ _ _ _ a a′ .0 ∙ sym (z′ .reply-is), z .table-zero ∙ sym (z′ .table-zero), z .out-zero ∙ sym (z′ .out-zero))
+  listed-unique r r′ t t′ o o′ (unlisted p n q ze f w a d z) (over p′ es fu b l z′) = absurd (refused-or-done _ a (b .analysed) d)
+  listed-unique r r′ t t′ o o′ (unlisted p n q ze f w a d z) (listed p′ es b l e g) = absurd (refused-or-done _ a (b .analysed) d)
+  listed-unique r r′ t t′ o o′ (over p es fu a l z) (faulty n′ q′ f′ z′) = absurd (fault-or-sound _ f′ (a .program))
+  listed-unique r r′ t t′ o o′ (over p es fu a l z) (misnamed p′ n′ q′ f′ w′ z′) = absurd (named-once f′ (a .program) w′ (a .named))
+  listed-unique r r′ t t′ o o′ (over p es fu a l z) (unlisted p′ n′ q′ ze′ f′ w′ b d′ z′) = absurd (refused-or-done _ b (a .analysed) d′)
+  listed-unique r r′ t t′ o o′ (over p es fu a l z) (over p′ es′ fu′ b l′ z′) = refused-once z z′
+  listed-unique r r′ t t′ o o′ (over p es fu a l z) (listed p′ es′ b l′ e g) = absurd (over-or-listed a b l l′)
+  listed-unique r r′ t t′ o o′ (listed p es a l e g) (faulty n′ q′ f′ z′) = absurd (fault-or-sound _ f′ (a .program))
+  listed-unique r r′ t t′ o o′ (listed p es a l e g) (misnamed p′ n′ q′ f′ w′ z′) = absurd (named-once f′ (a .program) w′ (a .named))
+  listed-unique r r′ t t′ o o′ (listed p es a l e g) (unlisted p′ n′ q′ ze′ f′ w′ b d′ z′) = absurd (refused-or-done _ b (a .analysed) d′)
+  listed-unique r r′ t t′ o o′ (listed p es a l e g) (over p′ es′ fu′ b l′ z′) = absurd (over-or-listed b a l′ l)
+  listed-unique r r′ t t′ o o′ (listed p es a l e g) (listed p′ es′ b l′ e′ g′) =
+      let same = listing-once a b in (e ∙ ap (λ (l : List ℕ). done (length l)) same ∙ sym e′, rows-once a b .2, g ∙ ap (inRoom room) same ∙ sym g′)
+
+  abbrev pub Met : Type 0
+  Met = (r : Reply) × (t : List ℕ) × (o : List ℕ) × Listed words names size room r t o
+
+  -- "For all inputs, refused ones too, a public function's promise determines reply and every lent word afterwards": it has a reply, a table and a listing
+  pub listed-met : Met
+  listed-met = found (faults words) refl
+    where
+      zeros : (number place : ℕ) → Refused size room number place (refused number place) (replicate size 0) (replicate room 0)
+      zeros number place = record { reply-is = refl; table-zero = refl; out-zero = refl }
+
+      fits : (p : Program) (entries : List Entry) (t : List ℕ) → Rows words names size t p entries → Dec (length (listingOf p names entries) ≤ room) → Met
+      fits p entries t rows (yes l) = (_, _, _, listed p entries rows l refl refl)
+      fits p entries t rows (no g) = (_, _, _, over p entries t rows (omega arith) (zeros noRoom room))
+
+      analysed : (p : Program) → faults words ≡ sound p → namesFor p names ≡ right names → (r : Reply) (t : List ℕ) → Promise words size r t → Met
+      analysed p f n r t (promise-faulty number place f′ e z) = absurd (fault-or-sound _ f′ f)
+      analysed p f n r t (promise-listed p′ entries f′ h l e z) =
+          fits p′ entries t (record { program = f′; named = rw (sound-same _ f f′) at n; rows = h; analysed = promise-listed p′ entries f′ h l refl z }) (decLe (length (listingOf p′ names entries)) room)
+      analysed p f n r t (full p′ f′ h e z) = (_, _, _, unlisted p _ _ t f n (full p′ f′ h refl z) (λ d. omega arith) (zeros _ _))
+      analysed p f n r t (unmarked p′ f′ h e z) = absurd (neither-never p′ h)
+
+      named : (p : Program) → faults words ≡ sound p → (x : Read (List ℕ)) → namesFor p names ≡ x → Met
+      named p f (wrong number place) w = (_, _, _, misnamed p number place f w (zeros number place))
+      named p f (right ns) w = let (r, t, a) = promise-met words size in analysed p f (w ∙ ap right (names-kept names _ _ w)) r t a
+
+      found : (f : Found) → faults words ≡ f → Met
+      found (fault number place) f = (_, _, _, faulty number place f (zeros number place))
+      found (sound p) f = named p f (namesFor p names) refl

@@ -1,0 +1,79 @@
+-- `listingOf`: the listing of a program's table, line by line. "Tabs and LFs are as in the text."
+use Prim.Native.Nat.{ℕ, suc, _-_}
+use mathlib.Core.List.{List, [], _∷_, _++_}
+use lib.ListN.{length, getD}
+use Rattle.terms.specs.Term.{Term, var}
+use Rattle.terms.specs.Cells.{enc}
+use Rattle.program.specs.Program.{Clause, Program}
+use Rattle.program.specs.Shapes.{shapes}
+use Rattle.table.specs.Rules.{Row, call, cont, solution}
+use Rattle.table.specs.Table.{Entry}
+use Rattle.text.specs.Decimal.{decimal}
+use Rattle.writer.specs.Tokens.{atomTokens, line}
+use Rattle.lister.specs.Letters.{occursIn, isListed, lettersOf}
+
+-- the words that lines begin with: `modes`, `shape`, `call`, `cont`, `sol`, `end`
+abbrev pub modesWord : List ℕ
+modesWord = 109 ∷ 111 ∷ 100 ∷ 101 ∷ 115 ∷ []
+
+abbrev pub shapeWord : List ℕ
+shapeWord = 115 ∷ 104 ∷ 97 ∷ 112 ∷ 101 ∷ []
+
+abbrev pub callWord : List ℕ
+callWord = 99 ∷ 97 ∷ 108 ∷ 108 ∷ []
+
+abbrev pub contWord : List ℕ
+contWord = 99 ∷ 111 ∷ 110 ∷ 116 ∷ []
+
+abbrev pub solWord : List ℕ
+solWord = 115 ∷ 111 ∷ 108 ∷ []
+
+abbrev pub endWord : List ℕ
+endWord = 101 ∷ 110 ∷ 100 ∷ []
+
+abbrev pub dot : ℕ
+dot = 46
+
+-- "The first line is the listing's version."
+abbrev pub version : ℕ
+version = 1
+
+-- "Shape lines, one for each shape: number, cells." Those of the shapes from number s on.
+abbrev pub shapeLine : List ℕ → ℕ → ℕ → Term → List ℕ
+shapeLine names predicates s S = line shapeWord (decimal s ∷ atomTokens names predicates [] (enc S))
+
+abbrev pub shapeLines : List ℕ → ℕ → ℕ → List Term → List ℕ
+shapeLines names predicates s [] = []
+shapeLines names predicates s (S ∷ Ss) = shapeLine names predicates s S ++ shapeLines names predicates (suc s) Ss
+
+-- the shape and the clause with a number, clauses from 1 on; every row has one
+abbrev pub shapeAt : Program → ℕ → Term
+shapeAt p s = getD (shapes p) s (var 0)
+
+abbrev pub clauseAt : Program → ℕ → Clause
+clauseAt p n = getD (p .clauses) (n - 1) (record { head = var 0; body = [] })
+
+abbrev pub shapeRow : Program → List ℕ → ℕ → ℕ → ℕ → List ℕ
+shapeRow p kind round s mask = line kind (decimal round ∷ decimal s ∷ lettersOf (occursIn (shapeAt p s)) mask ∷ [])
+
+abbrev pub placeRow : Program → ℕ → ℕ → ℕ → ℕ → List ℕ
+placeRow p round n i mask =
+    line contWord (decimal round ∷ (decimal n ++ dot ∷ decimal i) ∷ lettersOf (isListed (clauseAt p n) (i - 1)) mask ∷ [])
+
+-- "Row lines: kind, round, shape (or clause.place), then `g` or `a` for each variable of the shape (or list) in order"
+abbrev pub rowLine : Program → ℕ → Row ℕ → List ℕ
+rowLine p round (call s mask) = shapeRow p callWord round s mask
+rowLine p round (cont n i mask) = placeRow p round n i mask
+rowLine p round (solution s mask) = shapeRow p solWord round s mask
+
+abbrev pub rowLines : Program → List Entry → List ℕ
+rowLines p [] = []
+rowLines p (e ∷ entries) = rowLine p (e .round) (e .row) ++ rowLines p entries
+
+-- "`end` has the row count."
+abbrev pub listingOf : Program → List ℕ → List Entry → List ℕ
+listingOf p names entries =
+    line modesWord (decimal version ∷ [])
+    ++ shapeLines names (length (p .predicates)) 0 (shapes p)
+    ++ rowLines p entries
+    ++ line endWord (decimal (length entries) ∷ [])

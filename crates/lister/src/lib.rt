@@ -1,0 +1,4 @@
+// The listing of a program's table.
+mod letters;
+mod row_line;
+mod shape_line;
