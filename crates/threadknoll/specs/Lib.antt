@@ -1,0 +1,2 @@
+-- The library for the engine.
+pub mod Told

@@ -1,0 +1,76 @@
+/*
+ * Threadknoll: the mode table of a scenario, proved.
+ *
+ * Four functions over lent buffers. There is no heap, no global state and no fault of the caller's that is not answered: any bytes, any
+ * words and any lengths get a reply, and the caller checks nothing first. Each function is proved to keep what is said here; the exact
+ * promises are listed in docs/PROMISES.md.
+ *
+ * A reply is a number, which is handed back, a place and a count, which are put behind the two pointers. 0 is "accepted": the place is
+ * then 0, the count says how much was written, and the rest of each lent buffer is zeros. Every other number is a refusal: the count is
+ * then 0, and every word and byte of the lent output is 0.
+ *
+ * A pointer may be anything valid, also for length 0, but never NULL; buffers do not overlap.
+ */
+#ifndef THREADKNOLL_H
+#define THREADKNOLL_H
+
+#include <stddef.h>
+#include <stdint.h>
+
+#ifdef __cplusplus
+extern "C" {
+#endif
+
+/* Rooms that are always enough for words and names, the most rows that a table has, and what `modes` lends for a listing. */
+#define THREADKNOLL_MAX_TEXT 40960   /* bytes of a scenario text */
+#define THREADKNOLL_MAX_WORDS 2048   /* words of an encoded program */
+#define THREADKNOLL_MAX_NAMES 2048   /* bytes of its names: 16 for each of at most 128 symbols */
+#define THREADKNOLL_MAX_ROWS 4096    /* rows of a table */
+#define THREADKNOLL_ROW_WORDS 5      /* round, kind, a, b, mask */
+
+enum threadknoll_number {
+    THREADKNOLL_ACCEPTED = 0,
+    THREADKNOLL_TOO_SOON = 1,      /* the input, or a text line's atom, ends too soon */
+    THREADKNOLL_OUT_OF_RANGE = 2,  /* a count or arity is out of range, a 65th declaration or clause, a 17th body atom, no `pred` */
+    THREADKNOLL_UNDECLARED = 3,    /* the symbol is not declared, or an atom starts with no predicate */
+    THREADKNOLL_BAD_VARIABLE = 4,  /* a variable is above 15 or skips a number */
+    THREADKNOLL_LONG_ATOM = 5,     /* an atom reaches a 33rd cell */
+    THREADKNOLL_BAD_GOAL = 6,      /* the goal's variable count is wrong, or a mode is neither 0 nor 1 */
+    THREADKNOLL_FOLLOWS = 7,       /* something follows the goal, or the names */
+    THREADKNOLL_TOO_LONG = 8,      /* over 2,048 words, or over 40,960 bytes */
+    THREADKNOLL_NO_ROOM = 9,       /* the complete result is larger than the room; the place is the room: rows, words or bytes */
+    THREADKNOLL_NEITHER = 10,      /* proved never to come */
+    THREADKNOLL_ILL_FORMED = 11,   /* the text's line or token has a wrong form */
+    THREADKNOLL_BAD_NAME = 12,     /* a declared name is ill formed, or declared twice in its kind */
+    THREADKNOLL_BOTH_MODES = 13    /* a query variable is both `V` and `G` */
+};
+
+/* What a row's second word says. */
+enum threadknoll_kind { THREADKNOLL_CALL = 1, THREADKNOLL_CONT = 2, THREADKNOLL_SOLUTION = 3 };
+
+/*
+ * From a scenario text to an encoded program with its names; the count is in words. Names are 16 bytes each, padded with zeros, predicates
+ * first: 16 * (words[0] + words[1]) bytes.
+ * All faults come before room, and room for words before room for names. What is accepted, and written again with threadknoll_write, is
+ * the same text.
+ */
+uint16_t threadknoll_read(const uint8_t *text, size_t text_length,
+                          uint16_t *words, size_t words_length,
+                          uint8_t *names, size_t names_length,
+                          size_t *place, size_t *count);
+
+/*
+ * The mode table of an encoded program; the count is in rows, and the room in rows is table_length / 5, at most 4,096.
+ * An accepted table is the least set of rows closed under the mode rules, each row once, with the round in which it first appears, in
+ * ascending order of the five words. In any run of the program, every atom called is covered by a call row of its shape and every atom
+ * solved by a solution row: a variable of a shape that every call row of that shape marks ground is ground at every call of that shape.
+ */
+uint16_t threadknoll_analyse(const uint16_t *words, size_t words_length,
+                             uint16_t *table, size_t table_length,
+                             size_t *place, size_t *count);
+
+#ifdef __cplusplus
+}
+#endif
+
+#endif
