@@ -1,0 +1,2 @@
+-- Both round trips, each module named by its subject.
+pub mod Tokens
