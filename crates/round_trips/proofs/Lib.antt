@@ -1,2 +1,5 @@
 -- Both round trips, each module named by its subject.
 pub mod Tokens
+pub mod ReadTokens
+pub mod ReadModes
+pub mod ReadAtoms
