@@ -21,7 +21,7 @@ use Rattle.reader.specs.Lines.{clauseLine, queryLine, lineOf, fieldsOf}
 use Rattle.reader.specs.Fields.{between}
 use Rattle.reader.specs.Held.{moreOf, lastOf, Goes}
 
-abbrev KindIs : List ℕ → Kind → Type 0
+abbrev pub KindIs : List ℕ → Kind → Type 0
 KindIs s Pred = s ≡ pred
 KindIs s Func = s ≡ func
 KindIs s Clause = s ≡ clause
@@ -29,7 +29,7 @@ KindIs s Query = s ≡ query
 KindIs s Other = Unit {0}
 
 -- a line of a kind begins with its keyword
-kind-is : (s : List ℕ) → KindIs s (kindOf s)
+pub kind-is : (s : List ℕ) → KindIs s (kindOf s)
 kind-is s = first (same s pred) refl
   where
     fourth : (t : Bool) → same s query ≡ t → KindIs s (cond t Query Other)

@@ -26,12 +26,12 @@ use Rattle.reader.specs.Held.{Holds, LinedAs, Limited, FoundAs}
 use Rattle.reader.specs.declared.lines.Found.the-variants.{Fault as FoundFault, Done}
 
 -- what a line that ends in LF comes to, and then the others
-abbrev afterLine : Read Line → ℕ → List ℕ → List (List ℕ) → Read Scenario
+abbrev pub afterLine : Read Line → ℕ → List ℕ → List (List ℕ) → Read Scenario
 afterLine (wrong number place) at m ls = wrong number place
 afterLine (right (more t)) at m ls = linesOf t at m ls
 afterLine (right (last s)) at m ls = ending s at m ls
 
-linesOf-more : (t : Table) (at : ℕ) (l m : List ℕ) (ls : List (List ℕ)) → linesOf t at l (m ∷ ls) ≡ afterLine (fieldsOf t at (parts tab l)) (at + length l + 1) m ls
+pub linesOf-more : (t : Table) (at : ℕ) (l m : List ℕ) (ls : List (List ℕ)) → linesOf t at l (m ∷ ls) ≡ afterLine (fieldsOf t at (parts tab l)) (at + length l + 1) m ls
 linesOf-more t at l m ls = go (fieldsOf t at (parts tab l))
   where
     go : (o : Read Line)

@@ -3,3 +3,4 @@ pub mod Tokens
 pub mod ReadTokens
 pub mod ReadModes
 pub mod ReadAtoms
+pub mod ReadNames
