@@ -4,3 +4,6 @@ pub mod ReadTokens
 pub mod ReadModes
 pub mod ReadAtoms
 pub mod ReadNames
+pub mod Printed
+pub mod PrintedNumbers
+pub mod WrittenNames
