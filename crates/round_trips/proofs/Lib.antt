@@ -7,3 +7,5 @@ pub mod ReadNames
 pub mod Printed
 pub mod PrintedNumbers
 pub mod WrittenNames
+pub mod WrittenCells
+pub mod WrittenAtoms
