@@ -9,3 +9,5 @@ pub mod PrintedNumbers
 pub mod WrittenNames
 pub mod WrittenCells
 pub mod WrittenAtoms
+pub mod WrittenTokens
+pub mod WrittenLines

@@ -24,7 +24,7 @@ pub record Printed (s : List ℕ) : Type 0 where
   pub bytes : Bytes s
   pub short : length s ≤ nameBytes
 
-pub each-append : {P : ℕ → Type 0} (s t : List ℕ) → Each P s → Each P t → Each P (s ++ t)
+pub each-append : {A : Type 0} {P : A → Type 0} (s t : List A) → Each P s → Each P t → Each P (s ++ t)
 each-append [] t none f = f
 each-append (b ∷ s) t (more h e) f = more h (each-append s t e f)
 
