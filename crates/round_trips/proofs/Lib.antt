@@ -11,3 +11,7 @@ pub mod WrittenCells
 pub mod WrittenAtoms
 pub mod WrittenTokens
 pub mod WrittenLines
+pub mod WrittenDeclarations
+pub mod WrittenClauses
+pub mod WrittenQuery
+pub mod WrittenLength

@@ -5,7 +5,7 @@ use native.Mathlib.Numerals.{add-one}
 use mathlib.Core.Path.{_≡_, refl, sym, ap, ap₂, _∙_}
 use mathlib.Core.Logic.{_⊎_, inl, inr}
 use mathlib.Core.Bool.{Bool, true, false, cond, _&&_}
-use mathlib.Core.List.{List, [], _∷_, _++_}
+use mathlib.Core.List.{List, [], _∷_, _++_, append-assoc}
 use lib.ListN.{length, getD, length-append, List·getD-append}
 use lib.Seq.{getD-at, getD-append-add}
 use native.Mathlib.Nat.{sub-zero}
@@ -56,6 +56,10 @@ getD-modes ms (suc k) v h = go (decLt v k) (getD-modes ms k v)
 abbrev pub declaredTable : List ℕ → List ℕ → List ℕ → ℕ → List ℕ → Table
 declaredTable names ps fs n ws =
     record { predicates = length ps; functions = length fs; clauses = n; names = names; words = ps ++ (fs ++ ws) }
+
+-- more words behind the table's
+pub words-behind : (ps fs ws more : List ℕ) → (ps ++ (fs ++ ws)) ++ more ≡ ps ++ (fs ++ (ws ++ more))
+words-behind ps fs ws more = append-assoc ps (fs ++ ws) more ∙ ap (λ (l : List ℕ). ps ++ l) (append-assoc fs ws more)
 
 -- a line as far as it was read
 abbrev pub rowAt : List ℕ → ℕ → ℕ → ℕ → ℕ → List ℕ → Row

@@ -17,6 +17,9 @@ use Rattle.round_trips.proofs.Printed.{Bytes, Printed, fields-cut, line
 abbrev pub Reads : Table → List ℕ → Scenario → Type 0
 Reads t text s = (at : ℕ) → allLines t at (parts lineFeed text) ≡ right s
 
+pub reads-same : (t : Table) (text text′ : List ℕ) (s : Scenario) → text ≡ text′ → Reads t text′ s → Reads t text s
+reads-same t text text′ s e r = rw e r
+
 -- there is always a part
 parts-some : (b : ℕ) (s : List ℕ) → (m : List ℕ) × (ms : List (List ℕ)) × (parts b s ≡ m ∷ ms)
 parts-some b [] = ([], [], refl)

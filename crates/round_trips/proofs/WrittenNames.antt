@@ -133,12 +133,12 @@ name-found names predicates from to i e l h sound =
     rw (sound .kept, all) (seek-found names (entry names i) from (i - from) (to - suc i) i (omega arith) (rw e at (sound .first)) refl)
 
 -- and it is not among those before it
-pub name-new : (names : List ℕ) (predicates from m : ℕ) → firstOf predicates (from + m) ≡ from → (from + m) * nameBytes ≤ length names
-    → SoundName names predicates (from + m)
-    → seek (firstNames names (from + m)) (padded (nameIn (entry names (from + m)))) from m ≡ from + m
-name-new names predicates from m e l sound =
-    let all : from + m - from ≡ m = omega arith in
-    rw (sound .kept) (seek-first names (entry names (from + m)) (from + m) from m l (omega arith) ∙ rw (e, all) at (sound .first))
+pub name-new : (names : List ℕ) (predicates from m i : ℕ) → i ≡ from + m → firstOf predicates i ≡ from → i * nameBytes ≤ length names
+    → SoundName names predicates i → seek (firstNames names i) (padded (nameIn (entry names i))) from m ≡ from + m
+name-new names predicates from m i at e l sound =
+    let all : i - from ≡ m = omega arith in
+    rw (sound .kept)
+    (seek-first names (entry names i) i from m l (omega arith) ∙ (rw (e, all) at (sound .first)) ∙ at)
 
 pub first-predicate : (predicates i : ℕ) → i < predicates → firstOf predicates i ≡ 0
 first-predicate predicates i h = rw (lt-ltb i predicates h)

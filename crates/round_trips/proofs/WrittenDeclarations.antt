@@ -1,0 +1,128 @@
+-- The declarations that the writer writes are read as the names and arities that they were written from.
+use Prim.Native.Nat.{ℕ, zero, suc, _+_, _-_, _*_, _≤_, _<_}
+use native.Mathlib.Omega.{arith}
+use native.Mathlib.Nat.{zero-add, add-zero}
+use native.Mathlib.Numerals.{add-one}
+use mathlib.Core.Path.{_≡_, refl, sym, ap, ap₂, _∙_}
+use mathlib.Core.Bool.{Bool, true, false, cond, _&&_}
+use mathlib.Core.List.{List, [], _∷_, _++_, append-nil, append-assoc}
+use lib.ListN.{length, take}
+use lib.Seq.{take-all}
+use lib.Dec.{eqb, ltb}
+use borrow.Author.Tests.{lt-ltb, le-ltb, eq-eqb}
+use Rattle.program.specs.Limits.{minPredicates, maxDeclared, maxArity}
+use Rattle.program.specs.Within.{Each, none, more}
+use Rattle.text.specs.Line.{lineFeed}
+use Rattle.text.specs.Token.{numberOf}
+use Rattle.text.specs.Name.{nameBytes, padded, entry, seek}
+use Rattle.text.specs.Decimal.{decimal}
+use Rattle.reader.specs.Keyword.{pred, func}
+use Rattle.reader.specs.Table.{Read, wrong, right, next, Table, nothing}
+use Rattle.reader.specs.Declarations.{fresh, symbolOf}
+use Rattle.reader.specs.declared.declare.Declared.the-variants.{Symbol}
+use Rattle.reader.specs.Lines.{Line, more as goesOn, Scenario, fieldsOf}
+use Rattle.writer.specs.Names.{nameIn, firstOf}
+use Rattle.writer.specs.Tokens.{symbolToken, line}
+use Rattle.writer.specs.Write.{declarations}
+use Rattle.round_trips.proofs.Printed.{Bytes, Printed, name-printed}
+use Rattle.round_trips.proofs.PrintedNumbers.{number-printed}
+use Rattle.round_trips.proofs.WrittenNames.{SoundName, SoundNames, firstNames, names-more, name-new, first-predicate, first-function}
+use Rattle.round_trips.proofs.WrittenCells.{declaredTable}
+use Rattle.round_trips.proofs.WrittenLines.{Reads, line-more}
+
+pub arity-printed : (arity : ℕ) → arity ≤ maxArity → Printed (decimal arity)
+arity-printed arity h = let d = number-printed arity (omega arith) in record { bytes = d .bytes; short = omega (arith, d .short) }
+
+-- a declaration's name and arity, behind the names before it
+symbol-new : (names : List ℕ) (predicates from m i arity at : ℕ) → i ≡ from + m → firstOf predicates i ≡ from → i * nameBytes ≤ length names
+    → SoundName names predicates i → arity ≤ maxArity
+    → symbolOf (firstNames names i) from m at (symbolToken names i) (decimal arity) ≡ Symbol arity
+symbol-new names predicates from m i arity at is e l sound h =
+    rw (
+      sound .name,
+      eq-eqb (seek (firstNames names i) (padded (symbolToken names i)) from m) (from + m) (name-new names predicates from m i is e l sound),
+      number-printed arity (omega arith) .read,
+      le-ltb maxArity arity h,
+    )
+
+-- the table after i symbols, of predicates alone
+abbrev predicatesTable : List ℕ → ℕ → List ℕ → Table
+predicatesTable names i ws = record { predicates = i; functions = 0; clauses = 0; names = firstNames names i; words = ws }
+
+-- and of so many predicates, and functions behind them
+abbrev functionsTable : List ℕ → ℕ → ℕ → List ℕ → Table
+functionsTable names p i ws = record { predicates = p; functions = i - p; clauses = 0; names = firstNames names i; words = ws }
+
+module _ (names : List ℕ) (predicates symbols : ℕ) (sound : SoundNames names predicates symbols) where
+  pred-read : (i arity : ℕ) (ws : List ℕ) (at : ℕ) → i < predicates → predicates ≤ symbols → predicates ≤ maxDeclared → arity ≤ maxArity
+      → fieldsOf (predicatesTable names i ws) at (pred ∷ symbolToken names i ∷ decimal arity ∷ [])
+      ≡ right (goesOn (predicatesTable names (suc i) (ws ++ arity ∷ [])))
+  pred-read i arity ws at h few most small =
+      let s : SoundName names predicates i = sound .each i (omega arith) in
+      let room : i * nameBytes ≤ length names = omega (arith, sound .sized) in
+      rw (
+        lt-ltb i maxDeclared (omega arith),
+        symbol-new names predicates 0 i i arity (at + 4) (omega arith) (first-predicate predicates i h) room s small,
+        s .kept,
+        names-more names i,
+        add-one i,
+      )
+
+  func-read : (i arity : ℕ) (ws : List ℕ) (at : ℕ) → 0 < predicates → predicates ≤ i → i < symbols → symbols - predicates ≤ maxDeclared → arity ≤ maxArity
+      → fieldsOf (functionsTable names predicates i ws) at (func ∷ symbolToken names i ∷ decimal arity ∷ [])
+      ≡ right (goesOn (functionsTable names predicates (suc i) (ws ++ arity ∷ [])))
+  func-read i arity ws at some h few most small =
+      let s : SoundName names predicates i = sound .each i few in
+      let room : i * nameBytes ≤ length names = omega (arith, sound .sized) in
+      let one : i - predicates + 1 ≡ suc i - predicates = omega arith in
+      rw (
+        lt-ltb 0 predicates some,
+        lt-ltb (i - predicates) maxDeclared (omega arith),
+        symbol-new names predicates predicates (i - predicates) i arity (at + 4) (omega arith) (first-function predicates i h) room s small,
+        s .kept,
+        names-more names i,
+        one,
+      )
+
+  -- declarations of one kind, one by one; `table` is the table by the symbols so far
+  reads-declarations : (keyword : List ℕ) (table : ℕ → List ℕ → Table) (from to : ℕ) → Bytes keyword → to ≤ symbols
+      → ((i arity : ℕ) (ws : List ℕ) (at : ℕ) → from ≤ i → i < to → arity ≤ maxArity
+      → fieldsOf (table i ws) at (keyword ∷ symbolToken names i ∷ decimal arity ∷ []) ≡ right (goesOn (table (suc i) (ws ++ arity ∷ []))))
+      → (i : ℕ) (arities ws rest : List ℕ) (s : Scenario) → from ≤ i → i + length arities ≡ to → Each (λ arity. arity ≤ maxArity) arities
+      → Reads (table to (ws ++ arities)) rest s → Reads (table i ws) (declarations keyword names i arities ++ rest) s
+  reads-declarations keyword table from to k few step i [] ws rest s l e none r =
+      let same : i ≡ to = omega arith in
+      rw same (rw (append-nil ws) at r)
+  reads-declarations keyword table from to k few step i (arity ∷ arities) ws rest s l e (more h each) r =
+      let printed : Printed (symbolToken names i) = name-printed (symbolToken names i) (sound .each i (omega arith) .name) in
+      rw (append-assoc (line keyword (symbolToken names i ∷ decimal arity ∷ [])) (declarations keyword names (suc i) arities) rest)
+      (line-more (table i ws) keyword (symbolToken names i ∷ decimal arity ∷ []) k (more printed (more (arity-printed arity h) none))
+      (declarations keyword names (suc i) arities ++ rest) (table (suc i) (ws ++ arity ∷ [])) s (λ at. step i arity ws at l (omega arith) h)
+      (reads-declarations keyword table from to k few step (suc i) arities (ws ++ arity ∷ []) rest s (omega arith) (omega arith) each
+      (rw (append-assoc ws (arity ∷ []) arities) r)))
+
+-- all declarations, and what is read behind them
+pub reads-declared : (names ps fs rest : List ℕ) (s : Scenario) → SoundNames names (length ps) (length ps + length fs)
+    → minPredicates ≤ length ps → length ps ≤ maxDeclared → length fs ≤ maxDeclared
+    → Each (λ arity. arity ≤ maxArity) ps → Each (λ arity. arity ≤ maxArity) fs
+    → Reads (declaredTable names ps fs 0 []) rest s
+    → Reads nothing (declarations pred names 0 ps ++ (declarations func names (length ps) fs ++ rest)) s
+reads-declared names ps fs rest s sound some most functions-most small functions-small r =
+    reads-declarations names (length ps) (length ps + length fs) sound pred (predicatesTable names) 0 (length ps) (name-printed pred refl .bytes) (omega arith)
+    (λ i arity ws at l h small. pred-read names (length ps) (length ps + length fs) sound i arity ws at h (omega arith) most small)
+    0 ps [] (declarations func names (length ps) fs ++ rest) s (omega arith) (zero-add (length ps)) small
+    (rw start
+    (reads-declarations names (length ps) (length ps + length fs) sound func (functionsTable names (length ps)) (length ps) (length ps + length fs)
+    (name-printed func refl .bytes) (omega arith)
+    (λ i arity ws at l h small. func-read names (length ps) (length ps + length fs) sound i arity ws at (omega arith) l h (omega arith) small)
+    (length ps) fs ps rest s (omega arith) refl functions-small
+    (rw end r)))
+  where
+    start : predicatesTable names (length ps) ps ≡ functionsTable names (length ps) (length ps) ps
+    start = let none-yet : length ps - length ps ≡ 0 = omega arith in rw none-yet
+
+    end : functionsTable names (length ps) (length ps + length fs) (ps ++ fs) ≡ declaredTable names ps fs 0 []
+    end =
+        let all : length ps + length fs - length ps ≡ length fs = omega arith in
+        let whole : firstNames names (length ps + length fs) ≡ names = take-all ((length ps + length fs) * nameBytes) names (omega (arith, sound .sized)) in
+        rw (all, whole, append-nil fs)
