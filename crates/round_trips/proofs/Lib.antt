@@ -15,3 +15,4 @@ pub mod WrittenDeclarations
 pub mod WrittenClauses
 pub mod WrittenQuery
 pub mod WrittenLength
+pub mod WriteRead
