@@ -1,19 +1,18 @@
 -- What is printed: bytes above LF, which no cut at a tab or at LF goes through, in tokens of at most 16 bytes.
-use Prim.Native.Nat.{ℕ, zero, suc, _+_, _*_, _≤_, _<_}
+use Prim.Native.Nat.{ℕ, suc, _+_, _*_, _≤_, _<_}
 use native.Mathlib.Omega.{arith}
-use mathlib.Core.Path.{_≡_, refl, sym, ap, _∙_}
-use mathlib.Core.Bool.{Bool, true, false, cond, _&&_, _||_}
+use mathlib.Core.Path.{_≡_, refl, ap, _∙_}
+use mathlib.Core.Bool.{Bool, true, false, _&&_, _||_}
 use mathlib.Core.List.{List, [], _∷_, _++_, append-nil, append-assoc}
 use lib.ListN.{length, length-append}
 use lib.Dec.{eqb, leb}
 use borrow.Author.Tests.{eq-eqb, ne-eqb, leb-true, eqb-true}
 use Rattle.program.specs.Within.{Each, none, more}
-use Rattle.text.specs.Line.{lineFeed, tab, onto, parts}
+use Rattle.text.specs.Line.{lineFeed, tab, parts}
 use Rattle.text.specs.Name.{nameBytes}
-use Rattle.text.specs.Token.{isLower, isDigit, isNameByte, every, isName, lowerA, lowerZ, digit0, digit9, underscore, upperV, numberOf}
-use Rattle.text.specs.Decimal.{decimal}
-use Rattle.text.specs.declared.token.Number.the-variants.{Value}
+use Rattle.text.specs.Token.{isLower, isDigit, isNameByte, every, isName, lowerA, digit0, underscore}
 use Rattle.writer.specs.Tokens.{behindTabs, line}
+use Rattle.round_trips.proofs.Tokens.{both-true}
 
 -- bytes that stand in no cut
 abbrev pub Bytes : List ℕ → Type 0
@@ -65,43 +64,26 @@ line-cut keyword ss rest k each =
 
 -- a name's bytes
 lower-above : (b : ℕ) → isLower b ≡ true → lineFeed < b
-lower-above b e = go (leb lowerA b) refl e
-  where
-    go : (t : Bool) → leb lowerA b ≡ t → t && leb b lowerZ ≡ true → lineFeed < b
-    go true e f = omega (arith, leb-true lowerA b e)
-    go false e f = absurd (let z : _≡_ {A = ℕ} 0 1 = cc in omega arith)
-
-digit-above : (b : ℕ) → isDigit b ≡ true → lineFeed < b
-digit-above b e = go (leb digit0 b) refl e
-  where
-    go : (t : Bool) → leb digit0 b ≡ t → t && leb b digit9 ≡ true → lineFeed < b
-    go true e f = omega (arith, leb-true digit0 b e)
-    go false e f = absurd (let z : _≡_ {A = ℕ} 0 1 = cc in omega arith)
+lower-above b e = omega (arith, leb-true lowerA b (both-true _ _ e .0))
 
 name-byte-above : (b : ℕ) → isNameByte b ≡ true → lineFeed < b
 name-byte-above b e = go (isLower b) refl (isDigit b) refl e
   where
     go : (t : Bool) → isLower b ≡ t → (u : Bool) → isDigit b ≡ u → t || (u || eqb b underscore) ≡ true → lineFeed < b
     go true e u f g = lower-above b e
-    go false e true f g = digit-above b f
+    go false e true f g = omega (arith, leb-true digit0 b (both-true _ _ f .0))
     go false e false f g = omega (arith, eqb-true b underscore g)
 
 every-above : (s : List ℕ) → every isNameByte s ≡ true → Bytes s
 every-above [] e = none
-every-above (b ∷ bs) e = go (isNameByte b) refl (every-above bs) e
-  where
-    go : (t : Bool) → isNameByte b ≡ t → (every isNameByte bs ≡ true → Bytes bs) → t && every isNameByte bs ≡ true → Bytes (b ∷ bs)
-    go true e ih f = more (name-byte-above b e) (ih f)
-    go false e ih f = absurd (let z : _≡_ {A = ℕ} 0 1 = cc in omega arith)
+every-above (b ∷ bs) e = let parts = both-true (isNameByte b) (every isNameByte bs) e in more (name-byte-above b (parts .0)) (every-above bs (parts .1))
 
 pub name-printed : (s : List ℕ) → isName s ≡ true → Printed s
 name-printed [] e = absurd (let z : _≡_ {A = ℕ} 0 1 = cc in omega arith)
-name-printed (b ∷ bs) e = go (isLower b) refl (leb (length (b ∷ bs)) nameBytes) refl e
-  where
-    go : (t : Bool) → isLower b ≡ t → (u : Bool) → leb (length (b ∷ bs)) nameBytes ≡ u → t && (u && every isNameByte bs) ≡ true → Printed (b ∷ bs)
-    go true e true f g = record { bytes = more (lower-above b e) (every-above bs g); short = leb-true (length (b ∷ bs)) nameBytes f }
-    go true e false f g = absurd (let z : _≡_ {A = ℕ} 0 1 = cc in omega arith)
-    go false e u f g = absurd (let z : _≡_ {A = ℕ} 0 1 = cc in omega arith)
+name-printed (b ∷ bs) e =
+    let parts = both-true (isLower b) (leb (length (b ∷ bs)) nameBytes && every isNameByte bs) e in
+    let others = both-true (leb (length (b ∷ bs)) nameBytes) (every isNameByte bs) (parts .1) in
+    record { bytes = more (lower-above b (parts .0)) (every-above bs (others .1)); short = leb-true _ nameBytes (others .0) }
 
 -- how long a line is
 pub tabs-length : (ss : List (List ℕ)) → Each Printed ss → length (behindTabs ss) ≤ suc nameBytes * length ss

@@ -1,32 +1,29 @@
 -- A program with its names that is written and read again is the same words and the same names.
-use Prim.Native.Nat.{ℕ, zero, suc, _+_, _-_, _≤_, _<_}
+use Prim.Native.Nat.{ℕ, _+_, _≤_, _<_}
 use native.Mathlib.Omega.{arith}
 use native.Mathlib.Nat.{zero-add}
-use mathlib.Core.Path.{_≡_, refl, sym, ap, ap₂, _∙_}
-use mathlib.Core.Bool.{Bool, true, false, cond}
-use mathlib.Core.List.{List, [], _∷_, _++_, append-assoc}
+use mathlib.Core.Path.{_≡_, refl, sym, ap, _∙_}
+use mathlib.Core.List.{List, [], _++_, append-assoc}
 use lib.ListN.{length, take}
-use lib.Seq.{take-length}
-use lib.Dec.{ltb}
 use borrow.Author.Tests.{le-ltb}
 use Rattle.terms.specs.Cells.{enc}
 use Rattle.program.specs.Limits.{maxWords}
 use Rattle.program.specs.Reply.{done}
-use Rattle.program.specs.Program.{Clause, Program}
+use Rattle.program.specs.Program.{Program}
 use Rattle.program.specs.Faults.{Found, fault, sound, faults}
 use Rattle.program.specs.Within.{after, modesOf, encodeClauses, encode, WithinLimits}
 use Rattle.program.proofs.ProgramWords.{sound-encoded, sound-within}
-use Rattle.text.specs.Line.{lineFeed, parts}
 use Rattle.text.specs.Room.{inRoom}
-use Rattle.text.proofs.Rooms.{take-inRoom}
 use Rattle.reader.specs.Keyword.{pred, func, query}
 use Rattle.reader.specs.Table.{Read, wrong, right, next, nothing}
-use Rattle.reader.specs.Lines.{Scenario, allLines}
+use Rattle.reader.specs.Lines.{Scenario}
 use Rattle.reader.specs.Read.{maxBytes, readOf, answerOf, replyOf, wordsIn, namesIn}
+use Rattle.reader.proofs.Hands.{front-is}
 use Rattle.writer.specs.Names.{namesOf}
 use Rattle.writer.specs.Tokens.{atomTokens, line}
 use Rattle.writer.specs.Write.{declarations, clauseLines, textOf, written, writeOf, answerOf as writeAnswer, replyOf as writeReply, textIn}
-use Rattle.round_trips.proofs.WrittenNames.{SoundNames, names-sound}
+use Rattle.round_trips.proofs.ReadNames.{Sound-names}
+use Rattle.round_trips.proofs.WrittenNames.{names-sound}
 use Rattle.round_trips.proofs.WrittenLines.{Reads, reads-same}
 use Rattle.round_trips.proofs.WrittenDeclarations.{reads-declared}
 use Rattle.round_trips.proofs.WrittenClauses.{reads-clauses}
@@ -42,7 +39,7 @@ pub record Written (words names text : List ℕ) : Type 0 where
   pub program : Program
   pub is : encode program ≡ words
   pub within : WithinLimits program
-  pub names-are : SoundNames names (length (program .predicates)) (length (program .predicates) + length (program .functions))
+  pub names-are : Sound-names names (length (program .predicates)) (length (program .functions))
   pub text-is : text ≡ textOf program names
 
 pub write-written : (words names text : List ℕ) → writeOf words names ≡ right text → Written words names text
@@ -54,7 +51,7 @@ write-written words names text e = found (faults words) refl e
         → next o (λ ns. right (textOf p ns)) ≡ right text → Written words names text
     named p f (wrong number place) g q = let z : _≡_ {A = ℕ} 0 1 = cc in absurd (omega arith)
     named p f (right ns) g q =
-        let r = names-sound names (length (p .predicates)) (length (p .predicates) + length (p .functions)) ns g in
+        let r = names-sound names (length (p .predicates)) (length (p .functions)) ns g in
         let same : textOf p ns ≡ text = cc in
         record {
           program = p;
@@ -70,7 +67,7 @@ write-written words names text e = found (faults words) refl e
         named p f (namesOf names (length (p .predicates)) (length (p .predicates) + length (p .functions))) refl q
 
 -- the lines of a written text say the words and the names
-reads-text : (p : Program) (names : List ℕ) → WithinLimits p → SoundNames names (length (p .predicates)) (length (p .predicates) + length (p .functions))
+reads-text : (p : Program) (names : List ℕ) → WithinLimits p → Sound-names names (length (p .predicates)) (length (p .functions))
     → Reads nothing (textOf p names) (scenario (encode p) names)
 unfolding encode
 reads-text p names w s =
@@ -89,7 +86,7 @@ reads-text p names w s =
     (reads-query names ps fs s (length (p .clauses)) (encodeClauses (p .clauses)) (p .goal) (p .ground) some (w .goal-atom) (w .goal-numbered)))))
 
 -- it is never refused: not too long, no fault, not too many words
-program-read : (p : Program) (names : List ℕ) → WithinLimits p → SoundNames names (length (p .predicates)) (length (p .predicates) + length (p .functions))
+program-read : (p : Program) (names : List ℕ) → WithinLimits p → Sound-names names (length (p .predicates)) (length (p .functions))
     → readOf (textOf p names) ≡ right (scenario (encode p) names)
 unfolding readOf
 program-read p names w s =
@@ -121,7 +118,7 @@ module _ (words names text : List ℕ) (room words-room names-room : ℕ) (e : w
   write-accepts h = rw (e, le-ltb room (length text) h)
 
   bytes-are : length text ≤ room → bytesWritten words names room ≡ text
-  bytes-are h = rw (write-accepts h) (take-inRoom room text (length text) h (omega arith) ∙ take-length text)
+  bytes-are h = rw (write-accepts h) (front-is room text (inRoom room text) refl h)
 
   read-accepts : length words ≤ words-room → length names ≤ names-room → answerOf text words-room names-room ≡ right (scenario words names)
   read-accepts h k = rw (write-read words names text e, le-ltb words-room (length words) h, le-ltb names-room (length names) k)

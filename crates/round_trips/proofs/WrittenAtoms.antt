@@ -1,26 +1,26 @@
 -- The tokens that the writer writes for an atom are taken back to its cells and its variables.
-use Prim.Native.Nat.{ℕ, zero, suc, _+_, _-_, _*_, _≤_, _<_}
+use Prim.Native.Nat.{ℕ, suc, _+_, _-_, _≤_, _<_}
 use native.Mathlib.Omega.{arith}
 use native.Mathlib.Nat.{zero-add, add-zero}
 use native.Mathlib.Numerals.{add-one}
-use mathlib.Core.Path.{_≡_, refl, sym, ap, ap₂, _∙_}
+use mathlib.Core.Path.{_≡_, refl, ap}
 use mathlib.Core.Bool.{Bool, true, false, cond, _&&_}
 use mathlib.Core.List.{List, [], _∷_, _++_, map, map-append, append-nil, append-assoc}
 use lib.ListN.{length, getD, length-append}
-use lib.Dec.{eqb, ltb}
-use borrow.Author.Tests.{lt-ltb, le-ltb, ltb-true, ltb-false, ne-eqb}
+use lib.Dec.{ltb}
+use borrow.Author.Tests.{lt-ltb, le-ltb, ltb-false, ne-eqb}
 use Rattle.terms.specs.Term.{Term, Terms, var, app, nil, cons, count}
 use Rattle.terms.specs.Cells.{firstVariable, atomCells, enc, encs, Keeps, Keepss, Atom}
 use Rattle.program.specs.Limits.{maxBody}
 use Rattle.program.specs.Reading.{pick}
 use Rattle.program.specs.Atoms.{meet}
-use Rattle.program.specs.Within.{Each, none, more, after, afters, Numbered, Numbereds, NumberedAll, encodeAtoms}
+use Rattle.program.specs.Within.{after, afters, Numbered, Numbereds}
 use Rattle.reader.specs.declared.look.Look.{Look}
 use Rattle.reader.specs.declared.look.Look.the-variants.{Symbol, Variable as Met}
-use Rattle.reader.specs.Table.{Read, wrong, right, Table}
+use Rattle.reader.specs.Table.{right, Table}
 use Rattle.reader.specs.Cells.{Row, modeOf, lookOf, takenAt, withSymbol, withVariable, complete, cellsOf}
-use Rattle.writer.specs.Tokens.{symbolToken, variableToken, argumentToken, atomTokens, atomsTokens}
-use Rattle.round_trips.proofs.WrittenNames.{SoundNames}
+use Rattle.writer.specs.Tokens.{symbolToken, variableToken, argumentToken, atomTokens}
+use Rattle.round_trips.proofs.ReadNames.{Sound-names}
 use Rattle.round_trips.proofs.WrittenCells.{Mode, modesUpTo, declaredTable, rowAt, variable-token, start-symbol, argument-symbol, argument-variable}
 
 -- the tokens take one row to the other, wherever they stand
@@ -70,7 +70,7 @@ function-row ms atoms m cells seen f arity out =
     rw (ne-eqb (suc m) 0 (λ (e : suc m ≡ 0). omega arith), left)
 
 module _ (names ps fs : List ℕ) (n : ℕ) (ws : List ℕ) (query : Bool) (ms : List ℕ)
-    (sound : SoundNames names (length ps) (length ps + length fs)) (mode : (v : ℕ) → Mode query (getD ms v 0)) where
+    (sound : Sound-names names (length ps) (length fs)) (mode : (v : ℕ) → Mode query (getD ms v 0)) where
   abbrev table : Table
   table = declaredTable names ps fs n ws
 

@@ -1,33 +1,31 @@
 -- The token that the writer writes for a cell is read as that cell.
-use Prim.Native.Nat.{ℕ, zero, suc, _+_, _-_, _*_, _≤_, _<_}
+use Prim.Native.Nat.{ℕ, zero, suc, _+_, _-_, _≤_, _<_}
 use native.Mathlib.Omega.{arith}
 use native.Mathlib.Numerals.{add-one}
 use mathlib.Core.Path.{_≡_, refl, sym, ap, ap₂, _∙_}
 use mathlib.Core.Logic.{_⊎_, inl, inr}
-use mathlib.Core.Bool.{Bool, true, false, cond, _&&_}
+use mathlib.Core.Bool.{Bool, true, false, cond}
 use mathlib.Core.List.{List, [], _∷_, _++_, append-assoc}
 use lib.ListN.{length, getD, length-append, List·getD-append}
 use lib.Seq.{getD-at, getD-append-add}
 use native.Mathlib.Nat.{sub-zero}
 use native.Mathlib.Decide.{decLt}
-use lib.Dec.{eqb, ltb, leb}
-use borrow.Author.Tests.{lt-ltb, le-ltb, le-leb, lt-leb, ltb-true, ltb-false, eq-eqb, ne-eqb}
-use Rattle.terms.specs.Cells.{firstVariable, variables, atomCells}
+use lib.Dec.{eqb, ltb}
+use borrow.Author.Tests.{lt-ltb, le-ltb, lt-leb, ltb-true, eq-eqb, ne-eqb}
+use Rattle.terms.specs.Cells.{variables, atomCells}
 use Rattle.program.specs.Limits.{maxBody, maxVariable, anyMode, groundMode}
-use Rattle.program.specs.Atoms.{meet}
 use Rattle.program.specs.Reply.{bothModes}
-use Rattle.text.specs.Token.{tokenOf, signOf, variableOf, upperV, upperG}
-use Rattle.text.specs.Name.{entry, padded, seek}
-use Rattle.text.specs.Decimal.{decimal}
-use Rattle.text.specs.declared.token.Token.the-variants.{Name, Variable}
+use Rattle.text.specs.Token.{tokenOf}
+use Rattle.text.specs.Name.{padded, seek}
+use Rattle.text.specs.declared.token.Token.the-variants.{Variable}
 use Rattle.text.proofs.Tokens.{tokenOf-name}
 use Rattle.reader.specs.declared.look.Look.the-variants.{Fault, Symbol, Variable as Met}
-use Rattle.reader.specs.Table.{Read, wrong, right, Table}
-use Rattle.reader.specs.Cells.{Row, modeOf, symbolAt, lookOf, takenAt, complete, cellsOf}
-use Rattle.writer.specs.Names.{nameIn}
-use Rattle.writer.specs.Tokens.{symbolToken, variableToken, argumentToken}
+use Rattle.reader.specs.Table.{Table}
+use Rattle.reader.specs.Cells.{Row, modeOf, lookOf}
+use Rattle.writer.specs.Tokens.{symbolToken, variableToken}
 use Rattle.round_trips.proofs.PrintedNumbers.{number-printed}
-use Rattle.round_trips.proofs.WrittenNames.{SoundName, SoundNames, name-found, first-predicate, first-function}
+use Rattle.round_trips.proofs.ReadNames.{Sound-names}
+use Rattle.round_trips.proofs.WrittenNames.{sound-name, SoundName, name-found, first-predicate, first-function}
 
 -- the mode of a variable: `G` is for ground alone, and stands in the query alone
 abbrev pub Mode : Bool → ℕ → Type 0
@@ -77,7 +75,7 @@ variable-token query ms v h (inr ground) =
     (true, rw (sign, ground .1, number-printed v h .read), sym (ground .0))
 
 module _ (names ps fs : List ℕ) (n : ℕ) (ws : List ℕ) (query : Bool) (ms : List ℕ)
-    (sound : SoundNames names (length ps) (length ps + length fs)) where
+    (sound : Sound-names names (length ps) (length fs)) where
   abbrev table : Table
   table = declaredTable names ps fs n ws
 
@@ -85,7 +83,7 @@ module _ (names ps fs : List ℕ) (n : ℕ) (ws : List ℕ) (query : Bool) (ms :
   pub start-symbol : (w atoms cells seen : ℕ) (out : List ℕ) → w < length ps → atoms ≤ maxBody
       → lookOf table query (rowAt ms atoms 0 cells seen out) (symbolToken names w) ≡ Symbol w (getD ps w 0)
   start-symbol w atoms cells seen out h few =
-      let s : SoundName names (length ps) w = sound .each w (omega arith) in
+      let s : SoundName names (length ps) w = sound-name sound w (omega arith) in
       let at : seek names (padded (symbolToken names w)) 0 (length ps - 0) ≡ w
       = name-found names (length ps) 0 (length ps) w (first-predicate (length ps) w h) (omega arith) h s in
       rw (tokenOf-name query (symbolToken names w) (s .name), le-ltb maxBody atoms few, at, lt-ltb w (length ps) h)
@@ -95,7 +93,7 @@ module _ (names ps fs : List ℕ) (n : ℕ) (ws : List ℕ) (query : Bool) (ms :
   pub argument-symbol : (f atoms m cells seen : ℕ) (out : List ℕ) → f < length fs → cells < atomCells
       → lookOf table query (rowAt ms atoms (suc m) cells seen out) (symbolToken names (length ps + f)) ≡ Symbol f (getD fs f 0)
   argument-symbol f atoms m cells seen out h few =
-      let s : SoundName names (length ps) (length ps + f) = sound .each (length ps + f) (omega arith) in
+      let s : SoundName names (length ps) (length ps + f) = sound-name sound (length ps + f) (omega arith) in
       let below : length ps + f < length ps + length fs = omega arith in
       let at : seek names (padded (symbolToken names (length ps + f))) (length ps) (length ps + length fs - length ps) ≡ length ps + f
       = name-found names (length ps) (length ps) (length ps + length fs) (length ps + f) (first-function (length ps) (length ps + f) (omega arith)) (omega arith) below s in

@@ -1,14 +1,13 @@
 -- The clauses that the writer writes are read as the words of those clauses.
-use Prim.Native.Nat.{ℕ, zero, suc, _+_, _-_, _≤_, _<_}
+use Prim.Native.Nat.{ℕ, suc, _+_, _-_, _≤_, _<_}
 use native.Mathlib.Omega.{arith}
 use native.Mathlib.Nat.{add-zero}
 use native.Mathlib.Numerals.{add-one}
-use mathlib.Core.Path.{_≡_, refl, sym, ap, ap₂, _∙_}
-use mathlib.Core.Logic.{_⊎_, inl, inr}
-use mathlib.Core.Bool.{Bool, true, false, cond, _&&_}
+use mathlib.Core.Path.{_≡_, refl, ap, _∙_}
+use mathlib.Core.Logic.{inl}
+use mathlib.Core.Bool.{false}
 use mathlib.Core.List.{List, [], _∷_, _++_, append-nil, append-assoc}
 use lib.ListN.{length, getD}
-use lib.Dec.{ltb}
 use borrow.Author.Tests.{lt-ltb}
 use Rattle.terms.specs.Term.{Term}
 use Rattle.terms.specs.Cells.{enc, Atom}
@@ -17,19 +16,18 @@ use Rattle.program.specs.Program.{Clause}
 use Rattle.program.specs.Within.{Each, none, more, after, NumberedAll, encodeAtoms, encodeClauses, WithinClause}
 use Rattle.program.proofs.AtomWords.{afterAll}
 use Rattle.reader.specs.Keyword.{clause}
-use Rattle.reader.specs.Table.{Read, wrong, right, next, Table}
-use Rattle.reader.specs.Cells.{Row, noCells, cellsOf}
-use Rattle.reader.specs.Lines.{Line, more as goesOn, Scenario, withClause, fieldsOf}
-use Rattle.writer.specs.Tokens.{atomTokens, atomsTokens, line}
+use Rattle.reader.specs.Table.{right}
+use Rattle.reader.specs.Lines.{more as goesOn, Scenario, fieldsOf}
+use Rattle.writer.specs.Tokens.{atomsTokens, line}
 use Rattle.writer.specs.Write.{clauseLines}
-use Rattle.round_trips.proofs.Printed.{Printed, name-printed}
-use Rattle.round_trips.proofs.WrittenNames.{SoundNames}
+use Rattle.round_trips.proofs.Printed.{name-printed}
+use Rattle.round_trips.proofs.ReadNames.{Sound-names}
 use Rattle.round_trips.proofs.WrittenCells.{Mode, declaredTable, words-behind, rowAt}
 use Rattle.round_trips.proofs.WrittenAtoms.{Takes, take-atom, take-end}
 use Rattle.round_trips.proofs.WrittenTokens.{atoms-printed}
 use Rattle.round_trips.proofs.WrittenLines.{Reads, reads-same, line-more}
 
-module _ (names ps fs : List ℕ) (sound : SoundNames names (length ps) (length ps + length fs)) where
+module _ (names ps fs : List ℕ) (sound : Sound-names names (length ps) (length fs)) where
   -- no variable of a clause is marked
   unmarked : (v : ℕ) → Mode false (getD [] v 0)
   unmarked v = inl refl
@@ -44,11 +42,12 @@ module _ (names ps fs : List ℕ) (sound : SoundNames names (length ps) (length 
       (cells, rw (add-zero atoms, append-nil out) (take-end names ps fs n ws false [] sound unmarked atoms cells seen out (omega arith)))
   take-atoms n ws (t ∷ ts) atoms cells seen out (more a each) numbered few some =
       let others = take-atoms n ws ts (atoms + 1) (length (enc t)) (after seen t) (out ++ enc t) each (numbered .1) (omega arith) (omega arith) in
-      let number : atoms + 1 + length ts ≡ atoms + suc (length ts) = omega arith in
-      (others .0,
-      take-atom names ps fs n ws false [] sound unmarked t atoms cells seen out (atomsTokens names (length ps) ts)
-      (rowAt [] (atoms + suc (length ts)) 0 (others .0) (afterAll (after seen t) ts) (out ++ (enc t ++ encodeAtoms ts)))
-      a (numbered .0) (omega arith) refl (rw (number, append-assoc out (enc t) (encodeAtoms ts)) at (others .1)))
+      let number : atoms + 1 + length ts ≡ atoms + suc (length ts) = omega arith in (
+        others .0,
+        take-atom names ps fs n ws false [] sound unmarked t atoms cells seen out (atomsTokens names (length ps) ts)
+            (rowAt [] (atoms + suc (length ts)) 0 (others .0) (afterAll (after seen t) ts) (out ++ (enc t ++ encodeAtoms ts)))
+            a (numbered .0) (omega arith) refl (rw (number, append-assoc out (enc t) (encodeAtoms ts)) at (others .1)),
+      )
 
   clause-read : (n : ℕ) (ws : List ℕ) (c : Clause) (at : ℕ) → 0 < length ps → n < maxDeclared → WithinClause ps fs c
       → fieldsOf (declaredTable names ps fs n ws) at (clause ∷ atomsTokens names (length ps) (c .head ∷ c .body))

@@ -1,32 +1,29 @@
 -- The declarations that the writer writes are read as the names and arities that they were written from.
-use Prim.Native.Nat.{ℕ, zero, suc, _+_, _-_, _*_, _≤_, _<_}
+use Prim.Native.Nat.{ℕ, suc, _+_, _-_, _*_, _≤_, _<_}
 use native.Mathlib.Omega.{arith}
-use native.Mathlib.Nat.{zero-add, add-zero}
+use native.Mathlib.Nat.{zero-add}
 use native.Mathlib.Numerals.{add-one}
-use mathlib.Core.Path.{_≡_, refl, sym, ap, ap₂, _∙_}
-use mathlib.Core.Bool.{Bool, true, false, cond, _&&_}
+use mathlib.Core.Path.{_≡_, refl}
 use mathlib.Core.List.{List, [], _∷_, _++_, append-nil, append-assoc}
-use lib.ListN.{length, take}
+use lib.ListN.{length}
 use lib.Seq.{take-all}
-use lib.Dec.{eqb, ltb}
 use borrow.Author.Tests.{lt-ltb, le-ltb, eq-eqb}
 use Rattle.program.specs.Limits.{minPredicates, maxDeclared, maxArity}
 use Rattle.program.specs.Within.{Each, none, more}
-use Rattle.text.specs.Line.{lineFeed}
-use Rattle.text.specs.Token.{numberOf}
-use Rattle.text.specs.Name.{nameBytes, padded, entry, seek}
+use Rattle.text.specs.Name.{nameBytes, padded, seek}
 use Rattle.text.specs.Decimal.{decimal}
 use Rattle.reader.specs.Keyword.{pred, func}
-use Rattle.reader.specs.Table.{Read, wrong, right, next, Table, nothing}
-use Rattle.reader.specs.Declarations.{fresh, symbolOf}
+use Rattle.reader.specs.Table.{right, Table, nothing}
+use Rattle.reader.specs.Declarations.{symbolOf}
 use Rattle.reader.specs.declared.declare.Declared.the-variants.{Symbol}
-use Rattle.reader.specs.Lines.{Line, more as goesOn, Scenario, fieldsOf}
-use Rattle.writer.specs.Names.{nameIn, firstOf}
+use Rattle.reader.specs.Lines.{more as goesOn, Scenario, fieldsOf}
+use Rattle.writer.specs.Names.{firstOf}
 use Rattle.writer.specs.Tokens.{symbolToken, line}
 use Rattle.writer.specs.Write.{declarations}
 use Rattle.round_trips.proofs.Printed.{Bytes, Printed, name-printed}
 use Rattle.round_trips.proofs.PrintedNumbers.{number-printed}
-use Rattle.round_trips.proofs.WrittenNames.{SoundName, SoundNames, firstNames, names-more, name-new, first-predicate, first-function}
+use Rattle.round_trips.proofs.ReadNames.{Sound-names}
+use Rattle.round_trips.proofs.WrittenNames.{sound-name, SoundName, firstNames, names-more, name-new, first-predicate, first-function}
 use Rattle.round_trips.proofs.WrittenCells.{declaredTable}
 use Rattle.round_trips.proofs.WrittenLines.{Reads, line-more}
 
@@ -53,12 +50,12 @@ predicatesTable names i ws = record { predicates = i; functions = 0; clauses = 0
 abbrev functionsTable : List ℕ → ℕ → ℕ → List ℕ → Table
 functionsTable names p i ws = record { predicates = p; functions = i - p; clauses = 0; names = firstNames names i; words = ws }
 
-module _ (names : List ℕ) (predicates symbols : ℕ) (sound : SoundNames names predicates symbols) where
-  pred-read : (i arity : ℕ) (ws : List ℕ) (at : ℕ) → i < predicates → predicates ≤ symbols → predicates ≤ maxDeclared → arity ≤ maxArity
+module _ (names : List ℕ) (predicates functions : ℕ) (sound : Sound-names names predicates functions) where
+  pred-read : (i arity : ℕ) (ws : List ℕ) (at : ℕ) → i < predicates → predicates ≤ maxDeclared → arity ≤ maxArity
       → fieldsOf (predicatesTable names i ws) at (pred ∷ symbolToken names i ∷ decimal arity ∷ [])
       ≡ right (goesOn (predicatesTable names (suc i) (ws ++ arity ∷ [])))
-  pred-read i arity ws at h few most small =
-      let s : SoundName names predicates i = sound .each i (omega arith) in
+  pred-read i arity ws at h most small =
+      let s : SoundName names predicates i = sound-name sound i (omega arith) in
       let room : i * nameBytes ≤ length names = omega (arith, sound .sized) in
       rw (
         lt-ltb i maxDeclared (omega arith),
@@ -68,11 +65,11 @@ module _ (names : List ℕ) (predicates symbols : ℕ) (sound : SoundNames names
         add-one i,
       )
 
-  func-read : (i arity : ℕ) (ws : List ℕ) (at : ℕ) → 0 < predicates → predicates ≤ i → i < symbols → symbols - predicates ≤ maxDeclared → arity ≤ maxArity
+  func-read : (i arity : ℕ) (ws : List ℕ) (at : ℕ) → 0 < predicates → predicates ≤ i → i < predicates + functions → functions ≤ maxDeclared → arity ≤ maxArity
       → fieldsOf (functionsTable names predicates i ws) at (func ∷ symbolToken names i ∷ decimal arity ∷ [])
       ≡ right (goesOn (functionsTable names predicates (suc i) (ws ++ arity ∷ [])))
   func-read i arity ws at some h few most small =
-      let s : SoundName names predicates i = sound .each i few in
+      let s : SoundName names predicates i = sound-name sound i few in
       let room : i * nameBytes ≤ length names = omega (arith, sound .sized) in
       let one : i - predicates + 1 ≡ suc i - predicates = omega arith in
       rw (
@@ -85,7 +82,7 @@ module _ (names : List ℕ) (predicates symbols : ℕ) (sound : SoundNames names
       )
 
   -- declarations of one kind, one by one; `table` is the table by the symbols so far
-  reads-declarations : (keyword : List ℕ) (table : ℕ → List ℕ → Table) (from to : ℕ) → Bytes keyword → to ≤ symbols
+  reads-declarations : (keyword : List ℕ) (table : ℕ → List ℕ → Table) (from to : ℕ) → Bytes keyword → to ≤ predicates + functions
       → ((i arity : ℕ) (ws : List ℕ) (at : ℕ) → from ≤ i → i < to → arity ≤ maxArity
       → fieldsOf (table i ws) at (keyword ∷ symbolToken names i ∷ decimal arity ∷ []) ≡ right (goesOn (table (suc i) (ws ++ arity ∷ []))))
       → (i : ℕ) (arities ws rest : List ℕ) (s : Scenario) → from ≤ i → i + length arities ≡ to → Each (λ arity. arity ≤ maxArity) arities
@@ -94,7 +91,7 @@ module _ (names : List ℕ) (predicates symbols : ℕ) (sound : SoundNames names
       let same : i ≡ to = omega arith in
       rw same (rw (append-nil ws) at r)
   reads-declarations keyword table from to k few step i (arity ∷ arities) ws rest s l e (more h each) r =
-      let printed : Printed (symbolToken names i) = name-printed (symbolToken names i) (sound .each i (omega arith) .name) in
+      let printed : Printed (symbolToken names i) = name-printed (symbolToken names i) (sound-name sound i (omega arith) .name) in
       rw (append-assoc (line keyword (symbolToken names i ∷ decimal arity ∷ [])) (declarations keyword names (suc i) arities) rest)
       (line-more (table i ws) keyword (symbolToken names i ∷ decimal arity ∷ []) k (more printed (more (arity-printed arity h) none))
       (declarations keyword names (suc i) arities ++ rest) (table (suc i) (ws ++ arity ∷ [])) s (λ at. step i arity ws at l (omega arith) h)
@@ -102,19 +99,19 @@ module _ (names : List ℕ) (predicates symbols : ℕ) (sound : SoundNames names
       (rw (append-assoc ws (arity ∷ []) arities) r)))
 
 -- all declarations, and what is read behind them
-pub reads-declared : (names ps fs rest : List ℕ) (s : Scenario) → SoundNames names (length ps) (length ps + length fs)
+pub reads-declared : (names ps fs rest : List ℕ) (s : Scenario) → Sound-names names (length ps) (length fs)
     → minPredicates ≤ length ps → length ps ≤ maxDeclared → length fs ≤ maxDeclared
     → Each (λ arity. arity ≤ maxArity) ps → Each (λ arity. arity ≤ maxArity) fs
     → Reads (declaredTable names ps fs 0 []) rest s
     → Reads nothing (declarations pred names 0 ps ++ (declarations func names (length ps) fs ++ rest)) s
 reads-declared names ps fs rest s sound some most functions-most small functions-small r =
-    reads-declarations names (length ps) (length ps + length fs) sound pred (predicatesTable names) 0 (length ps) (name-printed pred refl .bytes) (omega arith)
-    (λ i arity ws at l h small. pred-read names (length ps) (length ps + length fs) sound i arity ws at h (omega arith) most small)
+    reads-declarations names (length ps) (length fs) sound pred (predicatesTable names) 0 (length ps) (name-printed pred refl .bytes) (omega arith)
+    (λ i arity ws at l h small. pred-read names (length ps) (length fs) sound i arity ws at h most small)
     0 ps [] (declarations func names (length ps) fs ++ rest) s (omega arith) (zero-add (length ps)) small
     (rw start
-    (reads-declarations names (length ps) (length ps + length fs) sound func (functionsTable names (length ps)) (length ps) (length ps + length fs)
+    (reads-declarations names (length ps) (length fs) sound func (functionsTable names (length ps)) (length ps) (length ps + length fs)
     (name-printed func refl .bytes) (omega arith)
-    (λ i arity ws at l h small. func-read names (length ps) (length ps + length fs) sound i arity ws at (omega arith) l h (omega arith) small)
+    (λ i arity ws at l h small. func-read names (length ps) (length fs) sound i arity ws at (omega arith) l h functions-most small)
     (length ps) fs ps rest s (omega arith) refl functions-small
     (rw end r)))
   where

@@ -1,12 +1,12 @@
 -- A written text is never too long: for each word it has at most 17 bytes, a tab and a token, and for each declaration 22 more.
-use Prim.Native.Nat.{ℕ, zero, suc, _+_, _-_, _*_, _≤_, _<_}
+use Prim.Native.Nat.{ℕ, suc, _+_, _*_, _≤_}
 use native.Mathlib.Omega.{arith}
 use mathlib.Core.Path.{_≡_, refl, sym, ap, _∙_}
 use mathlib.Core.List.{List, [], _∷_, _++_, append-assoc}
 use lib.ListN.{length, length-append}
 use Rattle.terms.specs.Term.{Term}
 use Rattle.terms.specs.Cells.{enc, Atom}
-use Rattle.program.specs.Limits.{maxWords, maxDeclared, maxArity}
+use Rattle.program.specs.Limits.{maxArity}
 use Rattle.program.specs.Program.{Clause, Program}
 use Rattle.program.specs.Within.{Each, none, more, after, modesOf, encodeAtoms, encodeClauses, encode, WithinClause, WithinLimits}
 use Rattle.text.specs.Decimal.{decimal}
@@ -16,10 +16,10 @@ use Rattle.writer.specs.Tokens.{symbolToken, atomTokens, atomsTokens, behindTab
 use Rattle.writer.specs.Write.{declarations, clauseLines, textOf}
 use Rattle.round_trips.proofs.Printed.{Printed, tabs-length, line-length}
 use Rattle.round_trips.proofs.WrittenDeclarations.{arity-printed}
-use Rattle.round_trips.proofs.WrittenNames.{SoundNames}
+use Rattle.round_trips.proofs.ReadNames.{Sound-names}
 use Rattle.round_trips.proofs.WrittenTokens.{symbol-printed, atom-printed, atom-tokens, atoms-printed, atoms-tokens}
 
-module _ (names ps fs : List ℕ) (sound : SoundNames names (length ps) (length ps + length fs)) where
+module _ (names ps fs : List ℕ) (sound : Sound-names names (length ps) (length fs)) where
   -- a line of one token a cell
   line-bound : (keyword : List ℕ) (ss : List (List ℕ)) (n : ℕ) → Each Printed ss → length ss ≡ n → length (line keyword ss) ≤ length keyword + 17 * n + 1
   line-bound keyword ss n each e =
@@ -73,7 +73,7 @@ encode-length p =
     )
     (omega arith)
 
-pub written-length : (p : Program) (names : List ℕ) → WithinLimits p → SoundNames names (length (p .predicates)) (length (p .predicates) + length (p .functions))
+pub written-length : (p : Program) (names : List ℕ) → WithinLimits p → Sound-names names (length (p .predicates)) (length (p .functions))
     → length (textOf p names) ≤ maxBytes
 written-length p names w sound =
     let ps : List ℕ = p .predicates in

@@ -1,15 +1,15 @@
 -- A line that the writer writes is cut off whole and cut into its keyword and its tokens; and the text goes on behind it.
-use Prim.Native.Nat.{ℕ, zero, suc, _+_}
-use mathlib.Core.Path.{_≡_, refl, sym, ap, _∙_}
+use Prim.Native.Nat.{ℕ, _+_}
+use mathlib.Core.Path.{_≡_, refl, ap, _∙_}
 use mathlib.Core.Bool.{Bool, true, false, cond}
 use mathlib.Core.List.{List, [], _∷_, _++_, append-nil}
 use lib.ListN.{length}
 use lib.Dec.{eqb}
 use Rattle.program.specs.Within.{Each}
 use Rattle.text.specs.Line.{lineFeed, tab, onto, parts}
-use Rattle.reader.specs.Table.{Read, wrong, right, Table}
+use Rattle.reader.specs.Table.{right, Table}
 use Rattle.reader.proofs.TextLines.{linesOf-more}
-use Rattle.reader.specs.Lines.{Line, more, last, Scenario, fieldsOf, linesOf, allLines}
+use Rattle.reader.specs.Lines.{more, last, Scenario, fieldsOf, allLines}
 use Rattle.writer.specs.Tokens.{behindTabs, line}
 use Rattle.round_trips.proofs.Printed.{Bytes, Printed, fields-cut, line-cut}
 

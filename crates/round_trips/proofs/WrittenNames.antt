@@ -1,21 +1,24 @@
 -- Names that the writer takes are sound: each is a name in its 16 bytes, and it is found at its own number, since names are distinct in their kind.
 use Prim.Native.Nat.{ℕ, zero, suc, _+_, _-_, _*_, _≤_, _<_}
 use native.Mathlib.Omega.{arith}
-use native.Mathlib.Numerals.{add-one}
-use mathlib.Core.Path.{_≡_, refl, sym, ap, ap₂, _∙_}
-use mathlib.Core.Bool.{Bool, true, false, cond, _&&_}
-use mathlib.Core.List.{List, [], _∷_, _++_}
-use lib.ListN.{length, take, drop, length-append, length-drop, length-take, take-append-drop}
-use lib.Seq.{drop-append-le, take-append-le, take-add, take-all}
+use mathlib.Core.Path.{_≡_, refl, sym, ap, _∙_}
+use mathlib.Core.Bool.{Bool, true, false, cond}
+use mathlib.Core.List.{List, _++_}
+use lib.ListN.{length, take, drop, length-take, take-append-drop}
+use lib.Seq.{take-add}
 use native.Mathlib.Decide.{decLt}
 use lib.Dec.{eqb, ltb}
-use borrow.Author.Tests.{lt-ltb, le-ltb, ltb-true, ltb-false, eqb-true, eq-eqb}
+use borrow.Author.Tests.{lt-ltb, le-ltb, ltb-false, eqb-true}
 use Rattle.program.specs.Reply.{tooSoon, follows, badName}
 use Rattle.text.specs.Token.{isName}
 use Rattle.text.specs.Name.{nameBytes, padded, entry, same, seek}
 use Rattle.text.proofs.Names.{same-equal, same-refl}
-use Rattle.reader.specs.Table.{Read, wrong, right}
+use Rattle.reader.specs.Table.{wrong, right}
+use Rattle.reader.proofs.Kepts.{seek-alike}
+use Rattle.reader.proofs.Symbols.{entry-front}
 use Rattle.writer.specs.Names.{nameIn, isEntry, firstOf, isSound, eachName, namesOf}
+use Rattle.round_trips.proofs.Tokens.{both-true}
+use Rattle.round_trips.proofs.ReadNames.{Sound-names}
 
 -- what is known of name i
 pub record SoundName (names : List ℕ) (predicates i : ℕ) : Type 0 where
@@ -23,51 +26,43 @@ pub record SoundName (names : List ℕ) (predicates i : ℕ) : Type 0 where
   pub kept : padded (nameIn (entry names i)) ≡ entry names i
   pub first : seek names (entry names i) (firstOf predicates i) (i - firstOf predicates i) ≡ i
 
-sound-name : (names : List ℕ) (predicates i : ℕ) → isSound names predicates i ≡ true → SoundName names predicates i
-sound-name names predicates i e =
-    go (isName (nameIn (entry names i))) refl (same (padded (nameIn (entry names i))) (entry names i)) refl e
-  where
-    go : (t : Bool) → isName (nameIn (entry names i)) ≡ t → (u : Bool) → same (padded (nameIn (entry names i))) (entry names i) ≡ u
-        → (t && u) && eqb (seek names (entry names i) (firstOf predicates i) (i - firstOf predicates i)) i ≡ true → SoundName names predicates i
-    go true e true f g =
-        record { name = e; kept = same-equal (padded (nameIn (entry names i))) (entry names i) f; first = eqb-true _ i g }
-    go true e false f g = absurd (let z : _≡_ {A = ℕ} 0 1 = cc in omega arith)
-    go false e u f g = absurd (let z : _≡_ {A = ℕ} 0 1 = cc in omega arith)
-
--- the names of so many predicates, so many symbols in all
-pub record SoundNames (names : List ℕ) (predicates symbols : ℕ) : Type 0 where
-  pub sized : length names ≡ symbols * nameBytes
-  pub each : (i : ℕ) → i < symbols → SoundName names predicates i
+pub sound-name : {names : List ℕ} {predicates functions : ℕ} → Sound-names names predicates functions → (i : ℕ) → i < predicates + functions
+    → SoundName names predicates i
+sound-name {names = names} {predicates = predicates} sound i h =
+    let e : List ℕ = entry names i in
+    let parts = both-true (isEntry e) (eqb (seek names e (firstOf predicates i) (i - firstOf predicates i)) i) (sound .each i h) in
+    let whole = both-true (isName (nameIn e)) (same (padded (nameIn e)) e) (parts .0) in
+    record { name = whole .0; kept = same-equal (padded (nameIn e)) e (whole .1); first = eqb-true _ i (parts .1) }
 
 each-sound : (names : List ℕ) (predicates i n : ℕ) (ns : List ℕ) → eachName names predicates i n ≡ right ns
-    → (ns ≡ names) × ((k : ℕ) → i ≤ k → k < i + n → SoundName names predicates k)
+    → (ns ≡ names) × ((k : ℕ) → i ≤ k → k < i + n → isSound names predicates k ≡ true)
 each-sound names predicates i zero ns e = (cc, λ k l h. absurd (omega arith))
 each-sound names predicates i (suc n) ns e = go (isSound names predicates i) refl (each-sound names predicates (suc i) n ns) e
   where
-    at : SoundName names predicates i → ((k : ℕ) → suc i ≤ k → k < suc i + n → SoundName names predicates k)
-        → (k : ℕ) → i ≤ k → k < i + suc n → SoundName names predicates k
-    at here others k l h = by (decLt i k)
-      where
-        by : Dec (i < k) → SoundName names predicates k
-        by (yes d) = others k d (omega arith)
-        by (no d) = let same : k ≡ i = omega arith in rw same here
+    at : isSound names predicates i ≡ true → ((k : ℕ) → suc i ≤ k → k < suc i + n → isSound names predicates k ≡ true)
+        → (k : ℕ) → Dec (i < k) → i ≤ k → k < i + suc n → isSound names predicates k ≡ true
+    at here others k (yes d) l h = others k d (omega arith)
+    at here others k (no d) l h = let last : k ≡ i = omega arith in rw last here
 
     go : (t : Bool) → isSound names predicates i ≡ t
-        → (eachName names predicates (suc i) n ≡ right ns → (ns ≡ names) × ((k : ℕ) → suc i ≤ k → k < suc i + n → SoundName names predicates k))
+        → (eachName names predicates (suc i) n ≡ right ns → (ns ≡ names) × ((k : ℕ) → suc i ≤ k → k < suc i + n → isSound names predicates k ≡ true))
         → cond t (eachName names predicates (suc i) n) (wrong badName (i * nameBytes)) ≡ right ns
-        → (ns ≡ names) × ((k : ℕ) → i ≤ k → k < i + suc n → SoundName names predicates k)
-    go true e ih f = let r = ih f in (r .0, at (sound-name names predicates i e) (r .1))
+        → (ns ≡ names) × ((k : ℕ) → i ≤ k → k < i + suc n → isSound names predicates k ≡ true)
+    go true e ih f = let r = ih f in (r .0, λ k l h. at e (r .1) k (decLt i k) l h)
     go false e ih f = absurd (let z : _≡_ {A = ℕ} 0 1 = cc in omega arith)
 
 -- names that are taken are as long as they should be, and each is sound
-pub names-sound : (names : List ℕ) (predicates symbols : ℕ) (ns : List ℕ) → namesOf names predicates symbols ≡ right ns
-    → (ns ≡ names) × SoundNames names predicates symbols
-names-sound names predicates symbols ns e =
+pub names-sound : (names : List ℕ) (predicates functions : ℕ) (ns : List ℕ) → namesOf names predicates (predicates + functions) ≡ right ns
+    → (ns ≡ names) × Sound-names names predicates functions
+names-sound names predicates functions ns e =
     go (ltb (length names) (symbols * nameBytes)) refl (ltb (symbols * nameBytes) (length names)) refl e
   where
+    symbols : ℕ
+    symbols = predicates + functions
+
     go : (t : Bool) → ltb (length names) (symbols * nameBytes) ≡ t → (u : Bool) → ltb (symbols * nameBytes) (length names) ≡ u
         → cond t (wrong tooSoon (length names)) (cond u (wrong follows (symbols * nameBytes)) (eachName names predicates 0 symbols)) ≡ right ns
-        → (ns ≡ names) × SoundNames names predicates symbols
+        → (ns ≡ names) × Sound-names names predicates functions
     go true e u f g = absurd (let z : _≡_ {A = ℕ} 0 1 = cc in omega arith)
     go false e true f g = absurd (let z : _≡_ {A = ℕ} 0 1 = cc in omega arith)
     go false e false f g =
@@ -93,13 +88,6 @@ seek-found names key from (suc m) k i e s f =
     go true s ih = s
     go false s ih = ih s
 
--- an entry in front of what is behind it
-entry-front : (front back : List ℕ) (k : ℕ) → suc k * nameBytes ≤ length front → entry (front ++ back) k ≡ entry front k
-entry-front front back k h =
-    let start : k * nameBytes ≤ length front = omega arith in
-    let left : nameBytes ≤ length (drop (k * nameBytes) front) = rw (length-drop (k * nameBytes) front) (omega arith) in
-    ap (take nameBytes) (drop-append-le (k * nameBytes) front back start) ∙ take-append-le nameBytes (drop (k * nameBytes) front) back left
-
 -- the first i names
 abbrev pub firstNames : List ℕ → ℕ → List ℕ
 firstNames names i = take (i * nameBytes) names
@@ -113,17 +101,8 @@ names-more names i =
 entry-first : (names : List ℕ) (i k : ℕ) → i * nameBytes ≤ length names → k < i → entry (firstNames names i) k ≡ entry names k
 entry-first names i k l h =
     let size : length (firstNames names i) ≡ i * nameBytes = rw (length-take (i * nameBytes) names) (omega arith) in
-    let room : suc k * nameBytes ≤ length (firstNames names i) = omega arith in
-    sym (entry-front (firstNames names i) (drop (i * nameBytes) names) k room)
+    sym (entry-front (firstNames names i) (drop (i * nameBytes) names) k (omega arith))
     ∙ ap (λ (l : List ℕ). entry l k) (take-append-drop (i * nameBytes) names)
-
--- a name is sought among the first names as among all
-pub seek-first : (names key : List ℕ) (i from m : ℕ) → i * nameBytes ≤ length names → from + m ≤ i
-    → seek (firstNames names i) key from m ≡ seek names key from m
-seek-first names key i from zero l h = refl
-seek-first names key i from (suc m) l h =
-    let here : entry (firstNames names i) from ≡ entry names from = entry-first names i from l (omega arith) in
-    ap₂ (λ (e : List ℕ) (n : ℕ). cond (same e key) from n) here (seek-first names key i (suc from) m l (omega arith))
 
 -- a sound name is found at its own number among the names of its kind, those from `from` to below `to`
 pub name-found : (names : List ℕ) (predicates from to i : ℕ) → firstOf predicates i ≡ from → from ≤ i → i < to → SoundName names predicates i
@@ -138,7 +117,7 @@ pub name-new : (names : List ℕ) (predicates from m i : ℕ) → i ≡ from + m
 name-new names predicates from m i at e l sound =
     let all : i - from ≡ m = omega arith in
     rw (sound .kept)
-    (seek-first names (entry names i) i from m l (omega arith) ∙ (rw (e, all) at (sound .first)) ∙ at)
+    (seek-alike (firstNames names i) names (entry names i) from m (λ k h₁ h₂. entry-first names i k l (omega arith)) ∙ (rw (e, all) at (sound .first)) ∙ at)
 
 pub first-predicate : (predicates i : ℕ) → i < predicates → firstOf predicates i ≡ 0
 first-predicate predicates i h = rw (lt-ltb i predicates h)

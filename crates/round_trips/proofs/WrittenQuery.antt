@@ -1,24 +1,23 @@
 -- The query that the writer writes is read as the goal's words, and the text ends behind it.
-use Prim.Native.Nat.{ℕ, zero, suc, _+_, _-_, _≤_, _<_}
+use Prim.Native.Nat.{ℕ, zero, suc, _+_, _≤_, _<_}
 use native.Mathlib.Omega.{arith}
-use mathlib.Core.Path.{_≡_, refl, sym, ap, ap₂, _∙_}
-use mathlib.Core.Logic.{_⊎_, inl, inr}
-use mathlib.Core.Bool.{Bool, true, false}
+use mathlib.Core.Path.{_≡_, refl, sym, ap, _∙_}
+use mathlib.Core.Logic.{inl, inr}
+use mathlib.Core.Bool.{true}
 use mathlib.Core.List.{List, [], _∷_, _++_, append-nil, append-assoc}
 use lib.ListN.{length, getD, take}
 use lib.Seq.{take-suc, take-length}
 use borrow.Author.Tests.{lt-ltb}
 use Rattle.terms.specs.Term.{Term}
 use Rattle.terms.specs.Cells.{enc, Atom}
-use Rattle.program.specs.Limits.{anyMode, groundMode}
 use Rattle.program.specs.Within.{Each, none, more, after, Numbered, modesOf}
 use Rattle.program.proofs.Modes.{modes-each, modes-length}
 use Rattle.reader.specs.Keyword.{query}
-use Rattle.reader.specs.Table.{Read, wrong, right, next, Table}
-use Rattle.reader.specs.Lines.{Line, last, Scenario, fieldsOf}
+use Rattle.reader.specs.Table.{right}
+use Rattle.reader.specs.Lines.{last, Scenario, fieldsOf}
 use Rattle.writer.specs.Tokens.{atomTokens, line}
-use Rattle.round_trips.proofs.Printed.{Printed, name-printed}
-use Rattle.round_trips.proofs.WrittenNames.{SoundNames}
+use Rattle.round_trips.proofs.Printed.{name-printed}
+use Rattle.round_trips.proofs.ReadNames.{Sound-names}
 use Rattle.round_trips.proofs.WrittenCells.{Mode, modesUpTo, declaredTable, words-behind, rowAt}
 use Rattle.round_trips.proofs.WrittenAtoms.{Takes, take-atom, take-end}
 use Rattle.round_trips.proofs.WrittenTokens.{atom-printed}
@@ -40,7 +39,7 @@ modes-front modes (suc k) h =
 pub modes-all : (modes : List ℕ) (k : ℕ) → length modes ≡ k → modesUpTo modes k ≡ modes
 modes-all modes k e = rw (← e) (modes-front modes (length modes) (omega arith) ∙ take-length modes)
 
-module _ (names ps fs : List ℕ) (sound : SoundNames names (length ps) (length ps + length fs)) (n : ℕ) (ws : List ℕ) (t : Term) (ground : ℕ)
+module _ (names ps fs : List ℕ) (sound : Sound-names names (length ps) (length fs)) (n : ℕ) (ws : List ℕ) (t : Term) (ground : ℕ)
     (some : 0 < length ps) (a : Atom ps fs t) (numbered : Numbered 0 t) where
   abbrev modes : List ℕ
   modes = modesOf (after 0 t) ground

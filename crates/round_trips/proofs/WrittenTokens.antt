@@ -1,9 +1,9 @@
 -- Each token that the writer writes for an atom is printed as a token, one token a cell.
-use Prim.Native.Nat.{ℕ, zero, suc, _+_, _-_, _≤_, _<_}
+use Prim.Native.Nat.{ℕ, suc, _+_, _-_, _≤_, _<_}
 use native.Mathlib.Omega.{arith}
 use mathlib.Core.Path.{_≡_, refl, sym, ap, _∙_}
 use mathlib.Core.Bool.{Bool, true, false, cond}
-use mathlib.Core.List.{List, [], _∷_, _++_, map, map-append}
+use mathlib.Core.List.{List, [], _∷_, map, map-append}
 use lib.ListN.{length, getD, length-append, length-map}
 use lib.Dec.{eqb}
 use borrow.Author.Tests.{lt-ltb, le-ltb}
@@ -13,11 +13,11 @@ use Rattle.program.specs.Limits.{groundMode}
 use Rattle.program.specs.Within.{Each, none, more, encodeAtoms}
 use Rattle.text.specs.Line.{lineFeed}
 use Rattle.text.specs.Token.{upperV, upperG}
-use Rattle.text.specs.Decimal.{decimal}
 use Rattle.writer.specs.Tokens.{symbolToken, variableToken, argumentToken, atomTokens, atomsTokens}
 use Rattle.round_trips.proofs.Printed.{Printed, each-append, name-printed}
 use Rattle.round_trips.proofs.PrintedNumbers.{number-printed}
-use Rattle.round_trips.proofs.WrittenNames.{SoundNames}
+use Rattle.round_trips.proofs.ReadNames.{Sound-names}
+use Rattle.round_trips.proofs.WrittenNames.{sound-name}
 
 variable-printed : (ms : List ℕ) (v : ℕ) → v < 16 → Printed (variableToken ms v)
 variable-printed ms v h =
@@ -28,9 +28,9 @@ variable-printed ms v h =
     sign true = omega arith
     sign false = omega arith
 
-module _ (names ps fs : List ℕ) (sound : SoundNames names (length ps) (length ps + length fs)) where
+module _ (names ps fs : List ℕ) (sound : Sound-names names (length ps) (length fs)) where
   pub symbol-printed : (i : ℕ) → i < length ps + length fs → Printed (symbolToken names i)
-  symbol-printed i h = name-printed (symbolToken names i) (sound .each i h .name)
+  symbol-printed i h = name-printed (symbolToken names i) (sound-name sound i h .name)
 
   module _ (ms : List ℕ) where
     abbrev token : ℕ → List ℕ
