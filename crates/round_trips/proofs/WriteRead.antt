@@ -3,12 +3,14 @@ use Prim.Native.Nat.{ℕ, _+_, _≤_, _<_}
 use native.Mathlib.Omega.{arith}
 use native.Mathlib.Nat.{zero-add}
 use mathlib.Core.Path.{_≡_, refl, sym, ap, _∙_}
+use mathlib.Core.Bool.{Bool, true, false, cond}
 use mathlib.Core.List.{List, [], _++_, append-assoc}
 use lib.ListN.{length, take}
-use borrow.Author.Tests.{le-ltb}
+use lib.Dec.{ltb}
+use borrow.Author.Tests.{le-ltb, ltb-false}
 use Rattle.terms.specs.Cells.{enc}
 use Rattle.program.specs.Limits.{maxWords}
-use Rattle.program.specs.Reply.{done}
+use Rattle.program.specs.Reply.{noRoom, done}
 use Rattle.program.specs.Program.{Program}
 use Rattle.program.specs.Faults.{Found, fault, sound, faults}
 use Rattle.program.specs.Within.{after, modesOf, encodeClauses, encode, WithinLimits}
@@ -21,7 +23,7 @@ use Rattle.reader.specs.Read.{maxBytes, readOf, answerOf, replyOf, wordsIn, nam
 use Rattle.reader.proofs.Hands.{front-is}
 use Rattle.writer.specs.Names.{namesOf}
 use Rattle.writer.specs.Tokens.{atomTokens, line}
-use Rattle.writer.specs.Write.{declarations, clauseLines, textOf, written, writeOf, answerOf as writeAnswer, replyOf as writeReply, textIn}
+use Rattle.writer.specs.Write.{declarations, clauseLines, textOf, written, writeOf, roomFor, answerOf as writeAnswer, replyOf as writeReply, textIn}
 use Rattle.round_trips.proofs.ReadNames.{Sound-names}
 use Rattle.round_trips.proofs.WrittenNames.{names-sound}
 use Rattle.round_trips.proofs.WrittenLines.{Reads, reads-same}
@@ -102,6 +104,12 @@ write-read words names text e =
     let w = write-written words names text e in
     ap readOf (w .text-is) ∙ program-read (w .program) names (w .within) (w .names-are) ∙ ap (λ (l : List ℕ). right (scenario l names)) (w .is)
 
+-- 40,960 bytes are room enough for every text that is written
+pub write-short : (words names text : List ℕ) → writeOf words names ≡ right text → length text ≤ maxBytes
+write-short words names text e =
+    let w = write-written words names text e in
+    rw (w .text-is) (written-length (w .program) names (w .within) (w .names-are))
+
 -- the bytes that `write` hands back in so much room
 abbrev pub bytesWritten : List ℕ → List ℕ → ℕ → List ℕ
 bytesWritten words names room = take (writeReply (writeAnswer words names room) .count) (textIn room (writeAnswer words names room))
@@ -134,3 +142,26 @@ module _ (words names text : List ℕ) (room words-room names-room : ℕ) (e : w
         words-again = rw reads;
         names-again = rw reads;
       }
+
+-- "a count of what was written (..; 0 when refused)": where something is counted, a text was written, and it had room
+wrote : (words names : List ℕ) (room : ℕ) → 0 < writeReply (writeAnswer words names room) .count
+    → (text : List ℕ) × (writeOf words names ≡ right text) × (length text ≤ room)
+wrote words names room h = found (writeOf words names) refl h
+  where
+    fits : (text : List ℕ) → writeOf words names ≡ right text → (t : Bool) → ltb room (length text) ≡ t
+        → 0 < writeReply (cond t (wrong noRoom room) (right text)) .count
+        → (text : List ℕ) × (writeOf words names ≡ right text) × (length text ≤ room)
+    fits text e true f h = absurd (omega arith)
+    fits text e false f h = (text, e, ltb-false room (length text) f)
+
+    found : (o : Read (List ℕ)) → writeOf words names ≡ o → 0 < writeReply (next o (roomFor room)) .count
+        → (text : List ℕ) × (writeOf words names ≡ right text) × (length text ≤ room)
+    found (wrong number place) e h = absurd (omega arith)
+    found (right text) e h = fits text e (ltb room (length text)) refl h
+
+-- what the caller sees: `write` counted bytes, and these bytes are read into any rooms that hold the words and the names
+pub counted-again : (words names : List ℕ) (room words-room names-room : ℕ) → 0 < writeReply (writeAnswer words names room) .count
+    → length words ≤ words-room → length names ≤ names-room → Again words names room words-room names-room
+counted-again words names room words-room names-room h k l =
+    let w = wrote words names room h in
+    write-read-rooms words names (w .0) room words-room names-room (w .1) (w .2) k l
