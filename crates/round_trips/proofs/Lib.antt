@@ -4,6 +4,8 @@ pub mod ReadTokens
 pub mod ReadModes
 pub mod ReadAtoms
 pub mod ReadNames
+pub mod ReadLines
+pub mod ReadDeclarations
 pub mod Printed
 pub mod PrintedNumbers
 pub mod WrittenNames
