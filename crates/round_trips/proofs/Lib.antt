@@ -6,6 +6,7 @@ pub mod ReadAtoms
 pub mod ReadNames
 pub mod ReadLines
 pub mod ReadDeclarations
+pub mod ReadClauses
 pub mod Printed
 pub mod PrintedNumbers
 pub mod WrittenNames
