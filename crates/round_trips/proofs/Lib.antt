@@ -7,6 +7,7 @@ pub mod ReadNames
 pub mod ReadLines
 pub mod ReadDeclarations
 pub mod ReadClauses
+pub mod ReadQuery
 pub mod Printed
 pub mod PrintedNumbers
 pub mod WrittenNames
