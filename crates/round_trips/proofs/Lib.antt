@@ -8,6 +8,8 @@ pub mod ReadLines
 pub mod ReadDeclarations
 pub mod ReadClauses
 pub mod ReadQuery
+pub mod ReadTexts
+pub mod ReadWrite
 pub mod Printed
 pub mod PrintedNumbers
 pub mod WrittenNames

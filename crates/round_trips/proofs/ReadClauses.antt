@@ -1,11 +1,11 @@
 -- Clause lines: the clause that is made of a line's tokens is within the limits, and is written as the line.
-use Prim.Native.Nat.{ℕ, zero, suc, _+_, _-_, _≤_, _<_}
+use Prim.Native.Nat.{ℕ, _+_, _-_, _≤_, _<_}
 use native.Mathlib.Omega.{arith}
 use mathlib.Core.Path.{_≡_, refl, sym, ap, ap₂, _∙_}
-use mathlib.Core.Bool.{Bool, true, false, cond, _&&_}
+use mathlib.Core.Bool.{Bool, true, false, _&&_}
 use mathlib.Core.List.{List, [], _∷_, _++_, map, append-nil, append-assoc}
 use lib.ListN.{length, getD, length-append}
-use lib.Dec.{eqb, ltb}
+use lib.Dec.{ltb}
 use Rattle.terms.specs.Term.{Term, Terms, nil}
 use Rattle.terms.specs.Cells.{enc, firstVariable, Atom}
 use Rattle.program.specs.Limits.{maxDeclared, maxBody, anyMode}
@@ -13,15 +13,15 @@ use Rattle.program.specs.Reply.{outOfRange}
 use Rattle.program.specs.Reading.{Read as Part, right as part}
 use Rattle.program.specs.Program.{Clause}
 use Rattle.program.specs.Atoms.{terms, atoms}
-use Rattle.program.specs.Within.{Each, none, more, NumberedAll, encodeAtoms, encodeClauses, WithinClause}
+use Rattle.program.specs.Within.{Each, more, NumberedAll, encodeAtoms, encodeClauses, WithinClause}
 use Rattle.program.proofs.Taking.{no-terms}
 use Rattle.program.proofs.AtomWords.{Atoms-read, atoms-read}
 use Rattle.reader.specs.Keyword.{pred, func, clause}
-use Rattle.reader.specs.Table.{Read, wrong, right, next, Table}
+use Rattle.reader.specs.Table.{right, Table}
 use Rattle.reader.specs.Cells.{Row, noCells, cellsOf}
 use Rattle.reader.specs.Lines.{withClause, clauseLine}
 use Rattle.reader.proofs.DeclaredLines.{open-few}
-use Rattle.writer.specs.Tokens.{symbolToken, variableToken, argumentToken, atomTokens, atomsTokens, line}
+use Rattle.writer.specs.Tokens.{symbolToken, argumentToken, atomTokens, atomsTokens, line}
 use Rattle.writer.specs.Write.{declarations, clauseLines}
 use Rattle.round_trips.proofs.ReadTokens.{Declares}
 use Rattle.round_trips.proofs.ReadModes.{Modal, no-modes, each-behind}

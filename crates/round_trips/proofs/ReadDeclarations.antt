@@ -1,7 +1,7 @@
 -- Declaration lines: what was read so far stays what is written, with the declaration.
-use Prim.Native.Nat.{ℕ, zero, suc, _+_, _*_, _≤_, _<_}
+use Prim.Native.Nat.{ℕ, suc, _+_, _*_, _≤_, _<_}
 use native.Mathlib.Omega.{arith}
-use native.Mathlib.Nat.{add-zero, zero-add}
+use native.Mathlib.Nat.{add-zero}
 use mathlib.Core.Path.{_≡_, refl, sym, ap, ap₂, _∙_}
 use mathlib.Core.Bool.{Bool, true, false, cond, _&&_}
 use mathlib.Core.List.{List, [], _∷_, _++_, append-nil, append-assoc}
@@ -11,7 +11,7 @@ use borrow.Author.Tests.{ltb-true, ltb-false, eqb-true}
 use Rattle.program.specs.Limits.{maxDeclared, maxArity}
 use Rattle.program.specs.Reply.{outOfRange, illFormed, badName}
 use Rattle.program.specs.Program.{Clause}
-use Rattle.program.specs.Within.{Each, none, more, encodeClauses, WithinClause}
+use Rattle.program.specs.Within.{Each, none, encodeClauses, WithinClause}
 use Rattle.text.specs.Token.{isName, numberOf}
 use Rattle.text.specs.Name.{nameBytes, padded}
 use Rattle.text.specs.Decimal.{decimal}
@@ -20,11 +20,9 @@ use Rattle.text.specs.declared.token.Number.the-variants.{None, Value}
 use Rattle.reader.specs.Keyword.{pred, func}
 use Rattle.reader.specs.Table.{Read, wrong, right, Table, nothing}
 use Rattle.reader.specs.Declarations.{declaring, fresh, arityOf, symbolOf, two, withSymbol, declared, predLine, funcLine}
-use Rattle.reader.specs.declared.declare.Declared.{Declared}
 use Rattle.reader.specs.declared.declare.Declared.the-variants.{Fault, Symbol}
 use Rattle.reader.proofs.Symbols.{entry-front}
 use Rattle.reader.proofs.DeclaredLines.{open-few}
-use Rattle.writer.specs.Names.{nameIn}
 use Rattle.writer.specs.Tokens.{symbolToken, line}
 use Rattle.writer.specs.Write.{declarations, clauseLines}
 use Rattle.round_trips.proofs.Tokens.{both-true, number-decimal}

@@ -1,26 +1,26 @@
 -- The query line: with it the words are the encoding of a program within the limits, which is written as the text.
-use Prim.Native.Nat.{ℕ, zero, suc, _+_, _^_, _≤_, _<_}
+use Prim.Native.Nat.{ℕ, _+_, _≤_, _<_}
 use native.Mathlib.Omega.{arith}
 use mathlib.Core.Path.{_≡_, refl, sym, ap, ap₂, _∙_}
-use mathlib.Core.Bool.{Bool, true, false, cond, _&&_}
+use mathlib.Core.Bool.{true}
 use mathlib.Core.List.{List, [], _∷_, _++_, append-nil, append-assoc}
-use lib.ListN.{length, getD}
+use lib.ListN.{length}
 use lib.Dec.{ltb}
 use borrow.Author.Tests.{ltb-true}
 use Rattle.terms.specs.Term.{Term}
-use Rattle.terms.specs.Cells.{enc, Atom}
+use Rattle.terms.specs.Cells.{enc}
 use Rattle.program.specs.Limits.{maxWords}
 use Rattle.program.specs.Reply.{outOfRange}
 use Rattle.program.specs.Reading.{Read as Part, right as part, next as and-then}
 use Rattle.program.specs.Program.{Clause, Program}
 use Rattle.program.specs.Atoms.{atom, atoms}
 use Rattle.program.specs.Faults.{maskOf}
-use Rattle.program.specs.Within.{after, Numbered, modesOf, encodeClauses, encode, WithinLimits}
+use Rattle.program.specs.Within.{after, modesOf, encodeClauses, encode, WithinLimits}
 use Rattle.program.proofs.Words.{next-right as part-right}
 use Rattle.program.proofs.AtomWords.{Atom-read, atom-read}
 use Rattle.program.proofs.Modes.{modes-of-mask, mask-below}
 use Rattle.reader.specs.Keyword.{query}
-use Rattle.reader.specs.Table.{Read, wrong, right, next, Table}
+use Rattle.reader.specs.Table.{right, Table}
 use Rattle.reader.specs.Cells.{Row, noCells, cellsOf}
 use Rattle.reader.specs.Lines.{Scenario, withGoal, queryLine}
 use Rattle.writer.specs.Names.{namesOf}

@@ -1,0 +1,35 @@
+-- Round trip 1: an accepted text, read and written again, is the same text; its words are a sound program's, and its names are sound for it.
+use Prim.Native.Nat.{ℕ, _+_}
+use mathlib.Core.Path.{_≡_, sym, ap, _∙_}
+use mathlib.Core.List.{List}
+use lib.ListN.{length}
+use Rattle.program.specs.Program.{Program}
+use Rattle.program.specs.Faults.{sound, faults}
+use Rattle.program.proofs.ProgramWords.{within-sound}
+use Rattle.reader.specs.Table.{right}
+use Rattle.reader.specs.Lines.{Scenario}
+use Rattle.reader.specs.Read.{readOf}
+use Rattle.writer.specs.Names.{namesOf}
+use Rattle.writer.specs.Write.{writeOf}
+use Rattle.round_trips.proofs.ReadTexts.{text-read}
+
+-- the words say a program, and the names have no fault for it
+pub record SoundScenario (s : Scenario) : Type 0 where
+  pub program : Program
+  pub accepted : faults (s .words) ≡ sound program
+  pub named : namesOf (s .names) (length (program .predicates)) (length (program .predicates) + length (program .functions)) ≡ right (s .names)
+
+module _ (text : List ℕ) (s : Scenario) (e : readOf text ≡ right s) where
+  read-faults : faults (s .words) ≡ sound (text-read text s e .program .program)
+  read-faults =
+      let r = text-read text s e in
+      sym (ap faults (r .program .encoded)) ∙ within-sound (r .program .program) (r .program .within (r .short))
+
+  -- what is read of an accepted text is a sound program with sound names
+  pub read-sound : SoundScenario s
+  read-sound = record { program = text-read text s e .program .program; accepted = read-faults; named = text-read text s e .program .named }
+
+  -- an accepted text, read and written again, is the same text, byte for byte
+  pub read-write : writeOf (s .words) (s .names) ≡ right text
+  unfolding writeOf
+  read-write = rw (read-faults, text-read text s e .program .named) (ap right (text-read text s e .program .written))
