@@ -1,5 +1,6 @@
 -- Both round trips, each module named by its subject.
 pub mod Tokens
+pub mod ReadParts
 pub mod ReadTokens
 pub mod ReadModes
 pub mod ReadAtoms
@@ -10,6 +11,8 @@ pub mod ReadClauses
 pub mod ReadQuery
 pub mod ReadTexts
 pub mod ReadWrite
+pub mod ReadFaults
+pub mod ReadWriteRooms
 pub mod Printed
 pub mod PrintedNumbers
 pub mod WrittenNames

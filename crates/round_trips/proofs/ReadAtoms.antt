@@ -18,17 +18,13 @@ use Rattle.program.proofs.Taking.{terms-cell, no-terms}
 use Rattle.program.proofs.TermWords.{encs-split}
 use Rattle.program.proofs.WordsOfTerms.{function-opens, variable-opens}
 use Rattle.text.specs.Decimal.{decimal}
-use Rattle.reader.specs.Table.{Read, wrong, right, next, Table}
+use Rattle.reader.specs.Table.{wrong, right, next, Table}
 use Rattle.reader.specs.Cells.{Row, modeOf, lookOf, withSymbol, withVariable, takenAt, complete, cellsOf}
 use Rattle.writer.specs.Tokens.{symbolToken, argumentToken, atomTokens}
 use Rattle.round_trips.proofs.Tokens.{both-true, signByte, variable-token-is}
+use Rattle.round_trips.proofs.ReadParts.{next-right}
 use Rattle.round_trips.proofs.ReadTokens.{Declares, Takes, starts, function, variable, token-takes}
 use Rattle.round_trips.proofs.ReadModes.{Modal, variable-modal, variable-keeps, variable-mode, variable-meets, variable-within, variables-grow}
-
--- what two parts come to, come to one after the other
-pub next-right : {A B : Type 0} (o : Read A) (f : A → Read B) (b : B) → next o f ≡ right b → (a : A) × (o ≡ right a) × (f a ≡ right b)
-next-right (wrong number place) f b e = let z : _≡_ {A = ℕ} 0 1 = cc in absurd (omega arith)
-next-right (right a) f b e = (a, refl, e)
 
 -- the tokens of atoms one after another, with these modes
 abbrev pub allTokens : List ℕ → ℕ → List ℕ → List Term → List (List ℕ)

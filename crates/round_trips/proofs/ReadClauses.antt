@@ -23,10 +23,11 @@ use Rattle.reader.specs.Lines.{withClause, clauseLine}
 use Rattle.reader.proofs.DeclaredLines.{open-few}
 use Rattle.writer.specs.Tokens.{symbolToken, argumentToken, atomTokens, atomsTokens, line}
 use Rattle.writer.specs.Write.{declarations, clauseLines}
+use Rattle.round_trips.proofs.ReadParts.{next-right, first-right}
 use Rattle.round_trips.proofs.ReadTokens.{Declares}
 use Rattle.round_trips.proofs.ReadModes.{Modal, no-modes, each-behind}
-use Rattle.round_trips.proofs.ReadAtoms.{next-right, allTokens, Taken, cells-taken}
-use Rattle.round_trips.proofs.ReadDeclarations.{SoFar, ReadSoFar, first-right}
+use Rattle.round_trips.proofs.ReadAtoms.{allTokens, Taken, cells-taken}
+use Rattle.round_trips.proofs.ReadDeclarations.{SoFar, ReadSoFar}
 
 -- the atoms of a whole line
 pub record LineAtoms (t : Table) (ps fs : List ℕ) (query : Bool) (ss : List (List ℕ)) (r : Row) : Type 0 where

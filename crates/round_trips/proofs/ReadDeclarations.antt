@@ -26,6 +26,7 @@ use Rattle.reader.proofs.DeclaredLines.{open-few}
 use Rattle.writer.specs.Tokens.{symbolToken, line}
 use Rattle.writer.specs.Write.{declarations, clauseLines}
 use Rattle.round_trips.proofs.Tokens.{both-true, number-decimal}
+use Rattle.round_trips.proofs.ReadParts.{first-right}
 use Rattle.round_trips.proofs.ReadModes.{each-behind}
 use Rattle.round_trips.proofs.ReadNames.{Sound-names, no-names, predicate-sound, function-sound, last-token}
 
@@ -85,11 +86,6 @@ declared-last keyword names name i arities a size is-name =
     declarations-more keyword (names ++ padded name) i arities a
     ∙ ap₂ (λ (x : List ℕ) (y : List ℕ). x ++ line keyword (y ∷ decimal a ∷ []))
     (declarations-front keyword names (padded name) i arities (omega arith)) (last-token names name (i + length arities) size is-name)
-
--- a choice that is right is the first, and its test holds
-pub first-right : {A : Type 0} (b : Bool) (o : Read A) (number place : ℕ) (a : A) → cond b o (wrong number place) ≡ right a → (b ≡ true) × (o ≡ right a)
-first-right true o number place a e = (refl, e)
-first-right false o number place a e = let z : _≡_ {A = ℕ} 0 1 = cc in absurd (omega arith)
 
 two-right : {A : Type 0} (at : ℕ) (ss : List (List ℕ)) (f : List ℕ → List ℕ → Read A) (a : A) → two at ss f ≡ right a
     → (name : List ℕ) × (arity : List ℕ) × (ss ≡ name ∷ arity ∷ []) × (f name arity ≡ right a)

@@ -23,13 +23,13 @@ use Rattle.reader.specs.Keyword.{query}
 use Rattle.reader.specs.Table.{right, Table}
 use Rattle.reader.specs.Cells.{Row, noCells, cellsOf}
 use Rattle.reader.specs.Lines.{Scenario, withGoal, queryLine}
-use Rattle.writer.specs.Names.{namesOf}
 use Rattle.writer.specs.Tokens.{atomTokens, line}
 use Rattle.writer.specs.Write.{textOf}
+use Rattle.round_trips.proofs.ReadParts.{next-right, first-right}
 use Rattle.round_trips.proofs.ReadModes.{Modal, no-modes}
-use Rattle.round_trips.proofs.ReadNames.{names-right}
-use Rattle.round_trips.proofs.ReadAtoms.{next-right, allTokens, cells-taken}
-use Rattle.round_trips.proofs.ReadDeclarations.{SoFar, ReadSoFar, first-right}
+use Rattle.round_trips.proofs.ReadNames.{Sound-names}
+use Rattle.round_trips.proofs.ReadAtoms.{allTokens, cells-taken}
+use Rattle.round_trips.proofs.ReadDeclarations.{SoFar, ReadSoFar}
 use Rattle.round_trips.proofs.ReadClauses.{LineAtoms, line-atoms, so-declares}
 
 -- a scenario and its text: the words say a program, the names are sound for it, and the text is what is written of both
@@ -37,7 +37,7 @@ pub record ReadProgram (s : Scenario) (text : List ℕ) : Type 0 where
   pub program : Program
   pub encoded : encode program ≡ s .words
   pub within : length (s .words) ≤ maxWords → WithinLimits program
-  pub named : namesOf (s .names) (length (program .predicates)) (length (program .predicates) + length (program .functions)) ≡ right (s .names)
+  pub named : Sound-names (s .names) (length (program .predicates)) (length (program .functions))
   pub written : textOf program (s .names) ≡ text
 
 -- one atom alone
@@ -128,7 +128,7 @@ module _ (t : Table) (text ps fs : List ℕ) (cs : List Clause) (so : SoFar t te
         program = readProgram;
         encoded = goal-encoded;
         within = goal-within;
-        named = names-right (t .names) (length ps) (length fs) (so .sound);
+        named = so .sound;
         written = goal-written;
       }
 

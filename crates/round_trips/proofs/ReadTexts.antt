@@ -2,7 +2,6 @@
 use Prim.Native.Nat.{ℕ, _+_, _≤_}
 use native.Mathlib.Omega.{arith}
 use mathlib.Core.Path.{_≡_, refl, sym, ap, _∙_}
-use mathlib.Core.Bool.{Bool, true, false, cond}
 use mathlib.Core.List.{List, [], _∷_, _++_, append-nil, append-assoc}
 use lib.ListN.{length}
 use lib.Dec.{ltb}
@@ -21,7 +20,7 @@ use Rattle.reader.proofs.LineKinds.{KindIs, kind-is}
 use Rattle.reader.proofs.TextLines.{afterLine, linesOf-more}
 use Rattle.writer.specs.Tokens.{line}
 use Rattle.round_trips.proofs.ReadLines.{behindEach, parts-together, line-together}
-use Rattle.round_trips.proofs.ReadAtoms.{next-right}
+use Rattle.round_trips.proofs.ReadParts.{next-right, second-right}
 use Rattle.round_trips.proofs.ReadDeclarations.{ReadSoFar, nothing-so-far, pred-read, func-read}
 use Rattle.round_trips.proofs.ReadClauses.{clause-read}
 use Rattle.round_trips.proofs.ReadQuery.{ReadProgram, query-read}
@@ -94,16 +93,12 @@ all-read text s [] f e = let z : _≡_ {A = ℕ} 0 1 = cc in absurd (omega arith
 all-read text s (l ∷ ls) f e =
     rw (← parts-together lineFeed text l ls f) at (lines-read ls nothing 0 l [] s (record { ps = []; fs = []; cs = []; so = nothing-so-far }) e)
 
--- (text) the second of two is right, where the first is a fault
-second-right : {A : Type 0} (b : Bool) (o : Read A) (number place : ℕ) (a : A) → cond b (wrong number place) o ≡ right a → (b ≡ false) × (o ≡ right a)
-second-right true o number place a e = let z : _≡_ {A = ℕ} 0 1 = cc in absurd (omega arith)
-second-right false o number place a e = (refl, e)
-
 -- an accepted text
 pub record ReadText (text : List ℕ) (s : Scenario) : Type 0 where
   pub program : ReadProgram s text
   pub short : length (s .words) ≤ maxWords
 
+-- (text) an accepted text's words and names
 pub text-read : (text : List ℕ) (s : Scenario) → readOf text ≡ right s → ReadText text s
 unfolding readOf
 text-read text s e =

@@ -11,6 +11,7 @@ use Rattle.reader.specs.Lines.{Scenario}
 use Rattle.reader.specs.Read.{readOf}
 use Rattle.writer.specs.Names.{namesOf}
 use Rattle.writer.specs.Write.{writeOf}
+use Rattle.round_trips.proofs.ReadNames.{names-right}
 use Rattle.round_trips.proofs.ReadTexts.{text-read}
 
 -- the words say a program, and the names have no fault for it
@@ -20,16 +21,22 @@ pub record SoundScenario (s : Scenario) : Type 0 where
   pub named : namesOf (s .names) (length (program .predicates)) (length (program .predicates) + length (program .functions)) ≡ right (s .names)
 
 module _ (text : List ℕ) (s : Scenario) (e : readOf text ≡ right s) where
-  read-faults : faults (s .words) ≡ sound (text-read text s e .program .program)
+  abbrev readProgram : Program
+  readProgram = text-read text s e .program .program
+
+  read-faults : faults (s .words) ≡ sound readProgram
   read-faults =
       let r = text-read text s e in
       sym (ap faults (r .program .encoded)) ∙ within-sound (r .program .program) (r .program .within (r .short))
 
+  read-named : namesOf (s .names) (length (readProgram .predicates)) (length (readProgram .predicates) + length (readProgram .functions)) ≡ right (s .names)
+  read-named = names-right (s .names) (length (readProgram .predicates)) (length (readProgram .functions)) (text-read text s e .program .named)
+
   -- what is read of an accepted text is a sound program with sound names
   pub read-sound : SoundScenario s
-  read-sound = record { program = text-read text s e .program .program; accepted = read-faults; named = text-read text s e .program .named }
+  read-sound = record { program = readProgram; accepted = read-faults; named = read-named }
 
   -- an accepted text, read and written again, is the same text, byte for byte
   pub read-write : writeOf (s .words) (s .names) ≡ right text
   unfolding writeOf
-  read-write = rw (read-faults, text-read text s e .program .named) (ap right (text-read text s e .program .written))
+  read-write = rw (read-faults, read-named) (ap right (text-read text s e .program .written))
