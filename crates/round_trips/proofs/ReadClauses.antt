@@ -13,7 +13,7 @@ use Rattle.program.specs.Reply.{outOfRange}
 use Rattle.program.specs.Reading.{Read as Part, right as part}
 use Rattle.program.specs.Program.{Clause}
 use Rattle.program.specs.Atoms.{terms, atoms}
-use Rattle.program.specs.Within.{Each, more, NumberedAll, encodeAtoms, encodeClauses, WithinClause}
+use Rattle.program.specs.Within.{Each, none, more, NumberedAll, encodeAtoms, encodeClauses, WithinClause}
 use Rattle.program.proofs.Taking.{no-terms}
 use Rattle.program.proofs.AtomWords.{Atoms-read, atoms-read}
 use Rattle.reader.specs.Keyword.{pred, func, clause}
@@ -23,9 +23,10 @@ use Rattle.reader.specs.Lines.{withClause, clauseLine}
 use Rattle.reader.proofs.DeclaredLines.{open-few}
 use Rattle.writer.specs.Tokens.{symbolToken, argumentToken, atomTokens, atomsTokens, line}
 use Rattle.writer.specs.Write.{declarations, clauseLines}
+use Rattle.round_trips.proofs.Printed.{each-append}
 use Rattle.round_trips.proofs.ReadParts.{next-right, first-right}
 use Rattle.round_trips.proofs.ReadTokens.{Declares}
-use Rattle.round_trips.proofs.ReadModes.{Modal, no-modes, each-behind}
+use Rattle.round_trips.proofs.ReadModes.{Modal, no-modes}
 use Rattle.round_trips.proofs.ReadAtoms.{allTokens, Taken, cells-taken}
 use Rattle.round_trips.proofs.ReadDeclarations.{SoFar, ReadSoFar}
 
@@ -157,7 +158,7 @@ module _ (t : Table) (text ps fs : List ℕ) (cs : List Clause) (so : SoFar t te
         clauses-most = omega (arith, so .clauses);
         predicate-arities = so .predicate-arities;
         function-arities = so .function-arities;
-        within = each-behind (WithinClause ps fs) cs (c .is) (so .within) (c .within);
+        within = each-append cs (c .is ∷ []) (so .within) (more (c .within) none);
         sound = so .sound;
         written = clause-text;
       }

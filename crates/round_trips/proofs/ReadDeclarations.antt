@@ -11,7 +11,7 @@ use borrow.Author.Tests.{ltb-true, ltb-false, eqb-true}
 use Rattle.program.specs.Limits.{maxDeclared, maxArity}
 use Rattle.program.specs.Reply.{outOfRange, illFormed, badName}
 use Rattle.program.specs.Program.{Clause}
-use Rattle.program.specs.Within.{Each, none, encodeClauses, WithinClause}
+use Rattle.program.specs.Within.{Each, none, more, encodeClauses, WithinClause}
 use Rattle.text.specs.Token.{isName, numberOf}
 use Rattle.text.specs.Name.{nameBytes, padded}
 use Rattle.text.specs.Decimal.{decimal}
@@ -27,7 +27,7 @@ use Rattle.writer.specs.Tokens.{symbolToken, line}
 use Rattle.writer.specs.Write.{declarations, clauseLines}
 use Rattle.round_trips.proofs.Tokens.{both-true, number-decimal}
 use Rattle.round_trips.proofs.ReadParts.{first-right}
-use Rattle.round_trips.proofs.ReadModes.{each-behind}
+use Rattle.round_trips.proofs.Printed.{each-append}
 use Rattle.round_trips.proofs.ReadNames.{Sound-names, no-names, predicate-sound, function-sound, last-token}
 
 -- the table so far is that of these arities and clauses, with sound names, and the text so far is what is written of them
@@ -133,9 +133,6 @@ declared-right t t′ predicates functions from n at name arity e = by (fresh (t
 size-more : (arities : List ℕ) (a : ℕ) → length (arities ++ a ∷ []) ≡ length arities + 1
 size-more arities a = length-append arities (a ∷ [])
 
-few-behind : (arities : List ℕ) (a : ℕ) → Each (λ arity. arity ≤ maxArity) arities → a ≤ maxArity → Each (λ arity. arity ≤ maxArity) (arities ++ a ∷ [])
-few-behind arities a each small = each-behind (λ arity. arity ≤ maxArity) arities a each small
-
 module _ (t : Table) (text ps : List ℕ) (name : List ℕ) (a : ℕ) (so : SoFar t text ps [] []) (room : t .predicates < maxDeclared)
     (new : fresh (t .names) 0 (t .predicates) name ≡ true) (small : a ≤ maxArity) where
   fresh-predicate : fresh (t .names) 0 (length ps) name ≡ true
@@ -159,7 +156,7 @@ module _ (t : Table) (text ps : List ℕ) (name : List ℕ) (a : ℕ) (so : SoFa
         predicates-most = omega (arith, size-more ps a, so .predicates);
         functions-most = so .functions-most;
         clauses-most = so .clauses-most;
-        predicate-arities = few-behind ps a (so .predicate-arities) small;
+        predicate-arities = each-append ps (a ∷ []) (so .predicate-arities) (more small none);
         function-arities = none;
         within = none;
         sound = rw (size-more ps a) (predicate-sound (t .names) name (length ps) (so .sound) fresh-predicate);
@@ -196,7 +193,7 @@ module _ (t : Table) (text ps fs : List ℕ) (name : List ℕ) (a : ℕ) (so : S
         functions-most = omega (arith, size-more fs a, so .functions);
         clauses-most = so .clauses-most;
         predicate-arities = so .predicate-arities;
-        function-arities = few-behind fs a (so .function-arities) small;
+        function-arities = each-append fs (a ∷ []) (so .function-arities) (more small none);
         within = none;
         sound = rw (size-more fs a) (function-sound (t .names) name (length ps) (length fs) (so .sound) fresh-function);
         written = function-written;

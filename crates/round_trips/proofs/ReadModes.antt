@@ -12,6 +12,7 @@ use Rattle.program.specs.Limits.{anyMode, groundMode}
 use Rattle.program.specs.Atoms.{meet}
 use Rattle.program.specs.Within.{Each, none, more}
 use Rattle.reader.specs.Cells.{Row, modeOf, noCells, withVariable}
+use Rattle.round_trips.proofs.Printed.{each-append}
 
 -- a mode for each variable met, and in a clause none is ground
 pub record Modal (query : Bool) (r : Row) : Type 0 where
@@ -21,10 +22,6 @@ pub record Modal (query : Bool) (r : Row) : Type 0 where
 
 pub no-modes : (query : Bool) → Modal query noCells
 no-modes query = record { met = refl; each = none; any = λ e v. refl }
-
-pub each-behind : {A : Type 0} (P : A → Type 0) (xs : List A) (y : A) → Each P xs → P y → Each P (xs ++ y ∷ [])
-each-behind P [] y none h = more h none
-each-behind P (x ∷ xs) y (more h each) k = more h (each-behind P xs y each k)
 
 any-behind : (ms : List ℕ) → ((v : ℕ) → getD ms v 0 ≡ 0) → (v : ℕ) → getD (ms ++ 0 ∷ []) v 0 ≡ 0
 any-behind [] h zero = refl
@@ -49,7 +46,7 @@ module _ (query : Bool) (r : Row) (v : ℕ) (ground : Bool) (modal : Modal query
 
       each : (b : Bool) → Each (λ m. m ≤ groundMode) (modesAt b)
       each true = modal .each
-      each false = each-behind (λ m. m ≤ groundMode) (r .modes) (modeOf ground) (modal .each) (mode-small ground)
+      each false = each-append (r .modes) (modeOf ground ∷ []) (modal .each) (more (mode-small ground) none)
 
       any : (b : Bool) → query ≡ false → (u : ℕ) → getD (modesAt b) u 0 ≡ anyMode
       any true e u = modal .any e u

@@ -40,3 +40,10 @@ module _ (text : List ℕ) (s : Scenario) (e : readOf text ≡ right s) where
   pub read-write : writeOf (s .words) (s .names) ≡ right text
   unfolding writeOf
   read-write = rw (read-faults, read-named) (ap right (text-read text s e .program .written))
+
+-- two texts that are read as one program with the same names are one text
+pub read-once : (text text′ : List ℕ) (s : Scenario) → readOf text ≡ right s → readOf text′ ≡ right s → text ≡ text′
+read-once text text′ s e e′ =
+    let one = read-write text s e in
+    let other = read-write text′ s e′ in
+    cc

@@ -1,10 +1,8 @@
 -- Round trip 1 in lent rooms: what `read` leaves in its rooms, `write` gives back as the text that was read.
 use Prim.Native.Nat.{ℕ, _+_, _*_, _≤_}
-use native.Mathlib.Omega.{arith}
 use mathlib.Core.Path.{_≡_, refl, sym, ap₂, _∙_}
 use mathlib.Core.List.{List}
 use lib.ListN.{length, getD, take}
-use lib.Seq.{take-length}
 use lib.Dec.{ltb}
 use borrow.Author.Tests.{ltb-false, le-ltb}
 use Rattle.program.specs.Program.{Program}
@@ -12,19 +10,15 @@ use Rattle.program.specs.Within.{encode}
 use Rattle.program.specs.Reply.{accepted, noRoom, done}
 use Rattle.text.specs.Room.{inRoom}
 use Rattle.text.specs.Name.{nameBytes}
-use Rattle.text.proofs.Rooms.{take-inRoom}
 use Rattle.reader.specs.Table.{right}
 use Rattle.reader.specs.Lines.{Scenario}
 use Rattle.reader.specs.Read.{readOf, inRooms, answerOf, replyOf, wordsIn, namesIn}
+use Rattle.reader.proofs.Hands.{front-is}
 use Rattle.writer.specs.Write as writes
 use Rattle.round_trips.proofs.ReadParts.{next-right, second-right}
 use Rattle.round_trips.proofs.ReadTexts.{text-read}
 use Rattle.round_trips.proofs.ReadWrite.{read-write}
 use Rattle.round_trips.proofs.ReadFaults.{accepted-read}
-
--- a list that fits stands whole in front of its room
-front-of-room : (room : ℕ) (xs : List ℕ) → length xs ≤ room → take (length xs) (inRoom room xs) ≡ xs
-front-of-room room xs h = take-inRoom room xs (length xs) h (omega arith) ∙ take-length xs
 
 -- what is known of an accepted text and its rooms
 record Answered (text : List ℕ) (words names : ℕ) (s : Scenario) : Type 0 where
@@ -64,7 +58,7 @@ pub record WritesBack (words names : List ℕ) (room : ℕ) (text : List ℕ) : 
 writes-back : (words names : List ℕ) (room : ℕ) (text : List ℕ) → writes.writeOf words names ≡ right text → length text ≤ room → WritesBack words names room text
 writes-back words names room text e h =
     let all : writes.answerOf words names room ≡ right text = rw (e, le-ltb room (length text) h) in
-    record { reply = rw all; bytes = rw all; text-first = rw all (front-of-room room text h) }
+    record { reply = rw all; bytes = rw all; text-first = rw all (front-is room text (inRoom room text) refl h) }
 
 -- a text, and the lengths of the two rooms that are lent to `read`
 module _ (text : List ℕ) (words names : ℕ) where
@@ -77,12 +71,12 @@ module _ (text : List ℕ) (words names : ℕ) where
   namesRead = take ((getD wordsRead 0 0 + getD wordsRead 1 0) * nameBytes) (namesIn names (answerOf text words names))
 
   words-are : (s : Scenario) → answerOf text words names ≡ right s → wordsRead ≡ s .words
-  words-are s e = rw e (front-of-room words (s .words) (answered text words names s e .words-fit))
+  words-are s e = rw e (front-is words (s .words) (inRoom words (s .words)) refl (answered text words names s e .words-fit))
 
   names-are : (s : Scenario) → answerOf text words names ≡ right s → namesRead ≡ s .names
   names-are s e =
       let a = answered text words names s e in
-      rw (words-are s e, names-counted text s (a .read), e) (front-of-room names (s .names) (a .names-fit))
+      rw (words-are s e, names-counted text s (a .read), e) (front-is names (s .names) (inRoom names (s .names)) refl (a .names-fit))
 
   -- "read" accepted, then "write" with room for the text gives it back
   pub read-write-rooms : replyOf (answerOf text words names) .number ≡ accepted → (room : ℕ) → length text ≤ room → WritesBack wordsRead namesRead room text
