@@ -1,4 +1,4 @@
--- Round trip 1: an accepted text, read and written again, is the same text; its words are a sound program's, and its names are sound for it.
+-- From text to text: an accepted text, read and written again, is the same text; its words are a sound program's, and its names are sound for it.
 use Prim.Native.Nat.{ℕ, _+_}
 use mathlib.Core.Path.{_≡_, sym, ap, _∙_}
 use mathlib.Core.List.{List}

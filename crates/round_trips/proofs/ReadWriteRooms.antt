@@ -1,4 +1,4 @@
--- Round trip 1 in lent rooms: what `read` leaves in its rooms, `write` gives back as the text that was read.
+-- From text to text in lent rooms: what `read` leaves in its rooms, `write` gives back as the text that was read.
 use Prim.Native.Nat.{ℕ, _+_, _*_, _≤_}
 use mathlib.Core.Path.{_≡_, refl, sym, ap₂, _∙_}
 use mathlib.Core.List.{List}
