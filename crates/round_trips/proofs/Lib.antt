@@ -25,3 +25,5 @@ pub mod WrittenClauses
 pub mod WrittenQuery
 pub mod WrittenLength
 pub mod WriteRead
+pub mod WriteFaults
+pub mod WriteReadRooms

@@ -45,11 +45,11 @@ DeclaredAbove (DeclaredFault number place) = 0 < number
 DeclaredAbove (DeclaredSymbol arity) = Unit {0}
 
 -- what holds of both holds of the choice
-either : {A : Type 0} (P : A → Type 0) (b : Bool) {x y : A} → P x → P y → P (cond b x y)
+pub either : {A : Type 0} (P : A → Type 0) (b : Bool) {x y : A} → P x → P y → P (cond b x y)
 either P true h k = h
 either P false h k = k
 
-next-above : {A B : Type 0} (o : Read A) (f : A → Read B) → AboveZero o → ((a : A) → AboveZero (f a)) → AboveZero (next o f)
+pub next-above : {A B : Type 0} (o : Read A) (f : A → Read B) → AboveZero o → ((a : A) → AboveZero (f a)) → AboveZero (next o f)
 next-above (wrong number place) f h k = h
 next-above (right a) f h k = k a
 

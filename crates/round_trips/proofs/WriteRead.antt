@@ -1,30 +1,26 @@
--- A program with its names that is written and read again is the same words and the same names.
+-- From words to words: an accepted program with sound names, written and read again, is the same words and the same names.
 use Prim.Native.Nat.{ℕ, _+_, _≤_, _<_}
 use native.Mathlib.Omega.{arith}
 use native.Mathlib.Nat.{zero-add}
 use mathlib.Core.Path.{_≡_, refl, sym, ap, _∙_}
-use mathlib.Core.Bool.{Bool, true, false, cond}
 use mathlib.Core.List.{List, [], _++_, append-assoc}
-use lib.ListN.{length, take}
-use lib.Dec.{ltb}
-use borrow.Author.Tests.{le-ltb, ltb-false}
+use lib.ListN.{length}
+use borrow.Author.Tests.{le-ltb}
 use Rattle.terms.specs.Cells.{enc}
 use Rattle.program.specs.Limits.{maxWords}
-use Rattle.program.specs.Reply.{noRoom, done}
 use Rattle.program.specs.Program.{Program}
 use Rattle.program.specs.Faults.{Found, fault, sound, faults}
 use Rattle.program.specs.Within.{after, modesOf, encodeClauses, encode, WithinLimits}
 use Rattle.program.proofs.ProgramWords.{sound-encoded, sound-within}
-use Rattle.text.specs.Room.{inRoom}
 use Rattle.reader.specs.Keyword.{pred, func, query}
-use Rattle.reader.specs.Table.{Read, wrong, right, next, nothing}
+use Rattle.reader.specs.Table.{right, nothing}
 use Rattle.reader.specs.Lines.{Scenario}
-use Rattle.reader.specs.Read.{maxBytes, readOf, answerOf, replyOf, wordsIn, namesIn}
-use Rattle.reader.proofs.Hands.{front-is}
+use Rattle.reader.specs.Read.{maxBytes, readOf}
 use Rattle.writer.specs.Names.{namesOf}
 use Rattle.writer.specs.Tokens.{atomTokens, line}
-use Rattle.writer.specs.Write.{declarations, clauseLines, textOf, written, writeOf, roomFor, answerOf as writeAnswer, replyOf as writeReply, textIn}
-use Rattle.round_trips.proofs.ReadNames.{Sound-names}
+use Rattle.writer.specs.Write.{declarations, clauseLines, textOf, written, writeOf}
+use Rattle.round_trips.proofs.ReadParts.{next-right}
+use Rattle.round_trips.proofs.ReadNames.{Sound-names, names-right}
 use Rattle.round_trips.proofs.WrittenNames.{names-sound}
 use Rattle.round_trips.proofs.WrittenLines.{Reads, reads-same}
 use Rattle.round_trips.proofs.WrittenDeclarations.{reads-declared}
@@ -48,25 +44,19 @@ pub write-written : (words names text : List ℕ) → writeOf words names ≡ ri
 unfolding writeOf
 write-written words names text e = found (faults words) refl e
   where
-    named : (p : Program) → faults words ≡ sound p → (o : Read (List ℕ))
-        → namesOf names (length (p .predicates)) (length (p .predicates) + length (p .functions)) ≡ o
-        → next o (λ ns. right (textOf p ns)) ≡ right text → Written words names text
-    named p f (wrong number place) g q = let z : _≡_ {A = ℕ} 0 1 = cc in absurd (omega arith)
-    named p f (right ns) g q =
-        let r = names-sound names (length (p .predicates)) (length (p .functions)) ns g in
-        let same : textOf p ns ≡ text = cc in
+    found : (o : Found) → faults words ≡ o → written names o ≡ right text → Written words names text
+    found (fault number place) f q = let z : _≡_ {A = ℕ} 0 1 = cc in absurd (omega arith)
+    found (sound p) f q =
+        let ns = next-right (namesOf names (length (p .predicates)) (length (p .predicates) + length (p .functions))) (λ ns. right (textOf p ns)) text q in
+        let named = names-sound names (length (p .predicates)) (length (p .functions)) (ns .0) (ns .1) in
+        let same : textOf p (ns .0) ≡ text = cc (ns .2) in
         record {
           program = p;
           is = sound-encoded words p f;
           within = sound-within words p f;
-          names-are = r .1;
-          text-is = sym same ∙ ap (textOf p) (r .0);
+          names-are = named .1;
+          text-is = sym same ∙ ap (textOf p) (named .0);
         }
-
-    found : (o : Found) → faults words ≡ o → written names o ≡ right text → Written words names text
-    found (fault number place) f q = let z : _≡_ {A = ℕ} 0 1 = cc in absurd (omega arith)
-    found (sound p) f q =
-        named p f (namesOf names (length (p .predicates)) (length (p .predicates) + length (p .functions))) refl q
 
 -- the lines of a written text say the words and the names
 reads-text : (p : Program) (names : List ℕ) → WithinLimits p → Sound-names names (length (p .predicates)) (length (p .functions))
@@ -110,58 +100,8 @@ write-short words names text e =
     let w = write-written words names text e in
     rw (w .text-is) (written-length (w .program) names (w .within) (w .names-are))
 
--- the bytes that `write` hands back in so much room
-abbrev pub bytesWritten : List ℕ → List ℕ → ℕ → List ℕ
-bytesWritten words names room = take (writeReply (writeAnswer words names room) .count) (textIn room (writeAnswer words names room))
-
--- what `write` and then `read` hand back
-pub record Again (words names : List ℕ) (room words-room names-room : ℕ) : Type 0 where
-  pub written : writeReply (writeAnswer words names room) ≡ done (length (bytesWritten words names room))
-  pub read : replyOf (answerOf (bytesWritten words names room) words-room names-room) ≡ done (length words)
-  pub words-again : wordsIn words-room (answerOf (bytesWritten words names room) words-room names-room) ≡ inRoom words-room words
-  pub names-again : namesIn names-room (answerOf (bytesWritten words names room) words-room names-room) ≡ inRoom names-room names
-
-module _ (words names text : List ℕ) (room words-room names-room : ℕ) (e : writeOf words names ≡ right text) where
-  write-accepts : length text ≤ room → writeAnswer words names room ≡ right text
-  write-accepts h = rw (e, le-ltb room (length text) h)
-
-  bytes-are : length text ≤ room → bytesWritten words names room ≡ text
-  bytes-are h = rw (write-accepts h) (front-is room text (inRoom room text) refl h)
-
-  read-accepts : length words ≤ words-room → length names ≤ names-room → answerOf text words-room names-room ≡ right (scenario words names)
-  read-accepts h k = rw (write-read words names text e, le-ltb words-room (length words) h, le-ltb names-room (length names) k)
-
-  -- written with enough room, and read with room for the words and the names
-  pub write-read-rooms : length text ≤ room → length words ≤ words-room → length names ≤ names-room → Again words names room words-room names-room
-  write-read-rooms h k l =
-      let bytes : bytesWritten words names room ≡ text = bytes-are h in
-      let reads : answerOf (bytesWritten words names room) words-room names-room ≡ right (scenario words names) = rw bytes (read-accepts k l) in
-      record {
-        written = rw (bytes, write-accepts h);
-        read = rw reads;
-        words-again = rw reads;
-        names-again = rw reads;
-      }
-
--- "a count of what was written (..; 0 when refused)": where something is counted, a text was written, and it had room
-wrote : (words names : List ℕ) (room : ℕ) → 0 < writeReply (writeAnswer words names room) .count
-    → (text : List ℕ) × (writeOf words names ≡ right text) × (length text ≤ room)
-wrote words names room h = found (writeOf words names) refl h
-  where
-    fits : (text : List ℕ) → writeOf words names ≡ right text → (t : Bool) → ltb room (length text) ≡ t
-        → 0 < writeReply (cond t (wrong noRoom room) (right text)) .count
-        → (text : List ℕ) × (writeOf words names ≡ right text) × (length text ≤ room)
-    fits text e true f h = absurd (omega arith)
-    fits text e false f h = (text, e, ltb-false room (length text) f)
-
-    found : (o : Read (List ℕ)) → writeOf words names ≡ o → 0 < writeReply (next o (roomFor room)) .count
-        → (text : List ℕ) × (writeOf words names ≡ right text) × (length text ≤ room)
-    found (wrong number place) e h = absurd (omega arith)
-    found (right text) e h = fits text e (ltb room (length text)) refl h
-
--- what the caller sees: `write` counted bytes, and these bytes are read into any rooms that hold the words and the names
-pub counted-again : (words names : List ℕ) (room words-room names-room : ℕ) → 0 < writeReply (writeAnswer words names room) .count
-    → length words ≤ words-room → length names ≤ names-room → Again words names room words-room names-room
-counted-again words names room words-room names-room h k l =
-    let w = wrote words names room h in
-    write-read-rooms words names (w .0) room words-room names-room (w .1) (w .2) k l
+-- and every accepted program with sound names is written
+pub sound-written : (words names : List ℕ) (p : Program) → faults words ≡ sound p
+    → Sound-names names (length (p .predicates)) (length (p .functions)) → writeOf words names ≡ right (textOf p names)
+unfolding writeOf
+sound-written words names p e s = rw (e, names-right names (length (p .predicates)) (length (p .functions)) s)

@@ -25,7 +25,7 @@ use Rattle.reader.specs.Cells.{Row, modeOf, lookOf}
 use Rattle.writer.specs.Tokens.{symbolToken, variableToken}
 use Rattle.round_trips.proofs.PrintedNumbers.{number-printed}
 use Rattle.round_trips.proofs.ReadNames.{Sound-names}
-use Rattle.round_trips.proofs.WrittenNames.{sound-name, SoundName, name-found, first-predicate, first-function}
+use Rattle.round_trips.proofs.WrittenNames.{sound-name, Sound-name, name-found, first-predicate, first-function}
 
 -- the mode of a variable: `G` is for ground alone, and stands in the query alone
 abbrev pub Mode : Bool → ℕ → Type 0
@@ -36,19 +36,19 @@ abbrev pub modesUpTo : List ℕ → ℕ → List ℕ
 modesUpTo ms zero = []
 modesUpTo ms (suc k) = modesUpTo ms k ++ getD ms k 0 ∷ []
 
-pub modes-length : (ms : List ℕ) (k : ℕ) → length (modesUpTo ms k) ≡ k
-modes-length ms zero = refl
-modes-length ms (suc k) = rw (length-append (modesUpTo ms k) (getD ms k 0 ∷ []), modes-length ms k, add-one k)
+pub length-modesUpTo : (ms : List ℕ) (k : ℕ) → length (modesUpTo ms k) ≡ k
+length-modesUpTo ms zero = refl
+length-modesUpTo ms (suc k) = rw (length-append (modesUpTo ms k) (getD ms k 0 ∷ []), length-modesUpTo ms k, add-one k)
 
 getD-modes : (ms : List ℕ) (k v : ℕ) → v < k → getD (modesUpTo ms k) v 0 ≡ getD ms v 0
 getD-modes ms zero v h = absurd (omega arith)
 getD-modes ms (suc k) v h = go (decLt v k) (getD-modes ms k v)
   where
     go : Dec (v < k) → (v < k → getD (modesUpTo ms k) v 0 ≡ getD ms v 0) → getD (modesUpTo ms (suc k)) v 0 ≡ getD ms v 0
-    go (yes l) ih = List·getD-append (modesUpTo ms k) (getD ms k 0 ∷ []) 0 v (rw (modes-length ms k) l) ∙ ih l
+    go (yes l) ih = List·getD-append (modesUpTo ms k) (getD ms k 0 ∷ []) 0 v (rw (length-modesUpTo ms k) l) ∙ ih l
     go (no l) ih =
         let last : v ≡ k = omega arith in
-        rw last (getD-at (modesUpTo ms k) (getD ms k 0) [] 0 k (modes-length ms k))
+        rw last (getD-at (modesUpTo ms k) (getD ms k 0) [] 0 k (length-modesUpTo ms k))
 
 -- the table behind the declarations, with the clauses' words
 abbrev pub declaredTable : List ℕ → List ℕ → List ℕ → ℕ → List ℕ → Table
@@ -65,12 +65,12 @@ rowAt ms atoms wanted cells seen out =
     record { wanted = wanted; cells = cells; atoms = atoms; variables = seen; modes = modesUpTo ms seen; out = out }
 
 -- what a mode's sign is read as
-pub variable-token : (query : Bool) (ms : List ℕ) (v : ℕ) → v < variables → Mode query (getD ms v 0)
+pub variable-read : (query : Bool) (ms : List ℕ) (v : ℕ) → v < variables → Mode query (getD ms v 0)
     → (ground : Bool) × (tokenOf query (variableToken ms v) ≡ Variable ground v) × (modeOf ground ≡ getD ms v 0)
-variable-token query ms v h (inl any) =
+variable-read query ms v h (inl any) =
     let sign : eqb (getD ms v 0) groundMode ≡ false = rw any in
     (false, rw (sign, number-printed v h .read), sym any)
-variable-token query ms v h (inr ground) =
+variable-read query ms v h (inr ground) =
     let sign : eqb (getD ms v 0) groundMode ≡ true = rw (ground .0) in
     (true, rw (sign, ground .1, number-printed v h .read), sym (ground .0))
 
@@ -83,7 +83,7 @@ module _ (names ps fs : List ℕ) (n : ℕ) (ws : List ℕ) (query : Bool) (ms :
   pub start-symbol : (w atoms cells seen : ℕ) (out : List ℕ) → w < length ps → atoms ≤ maxBody
       → lookOf table query (rowAt ms atoms 0 cells seen out) (symbolToken names w) ≡ Symbol w (getD ps w 0)
   start-symbol w atoms cells seen out h few =
-      let s : SoundName names (length ps) w = sound-name sound w (omega arith) in
+      let s : Sound-name names (length ps) w = sound-name sound w (omega arith) in
       let at : seek names (padded (symbolToken names w)) 0 (length ps - 0) ≡ w
       = name-found names (length ps) 0 (length ps) w (first-predicate (length ps) w h) (omega arith) h s in
       rw (tokenOf-name query (symbolToken names w) (s .name), le-ltb maxBody atoms few, at, lt-ltb w (length ps) h)
@@ -93,7 +93,7 @@ module _ (names ps fs : List ℕ) (n : ℕ) (ws : List ℕ) (query : Bool) (ms :
   pub argument-symbol : (f atoms m cells seen : ℕ) (out : List ℕ) → f < length fs → cells < atomCells
       → lookOf table query (rowAt ms atoms (suc m) cells seen out) (symbolToken names (length ps + f)) ≡ Symbol f (getD fs f 0)
   argument-symbol f atoms m cells seen out h few =
-      let s : SoundName names (length ps) (length ps + f) = sound-name sound (length ps + f) (omega arith) in
+      let s : Sound-name names (length ps) (length ps + f) = sound-name sound (length ps + f) (omega arith) in
       let below : length ps + f < length ps + length fs = omega arith in
       let at : seek names (padded (symbolToken names (length ps + f))) (length ps) (length ps + length fs - length ps) ≡ length ps + f
       = name-found names (length ps) (length ps) (length ps + length fs) (length ps + f) (first-function (length ps) (length ps + f) (omega arith)) (omega arith) below s in

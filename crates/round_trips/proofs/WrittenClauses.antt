@@ -23,7 +23,7 @@ use Rattle.writer.specs.Write.{clauseLines}
 use Rattle.round_trips.proofs.Printed.{name-printed}
 use Rattle.round_trips.proofs.ReadNames.{Sound-names}
 use Rattle.round_trips.proofs.WrittenCells.{Mode, declaredTable, words-behind, rowAt}
-use Rattle.round_trips.proofs.WrittenAtoms.{Takes, take-atom, take-end}
+use Rattle.round_trips.proofs.WrittenAtoms.{TakesTo, take-atom, take-end}
 use Rattle.round_trips.proofs.WrittenTokens.{atoms-printed}
 use Rattle.round_trips.proofs.WrittenLines.{Reads, reads-same, line-more}
 
@@ -36,7 +36,7 @@ module _ (names ps fs : List ℕ) (sound : Sound-names names (length ps) (length
   take-atoms : (n : ℕ) (ws : List ℕ) (ts : List Term) (atoms cells seen : ℕ) (out : List ℕ) → Each (Atom ps fs) ts → NumberedAll seen ts
       → atoms + length ts ≤ suc maxBody → 0 < atoms + length ts
       → (last : ℕ)
-      × Takes (declaredTable names ps fs n ws) false (rowAt [] atoms 0 cells seen out) (atomsTokens names (length ps) ts)
+      × TakesTo (declaredTable names ps fs n ws) false (rowAt [] atoms 0 cells seen out) (atomsTokens names (length ps) ts)
       (rowAt [] (atoms + length ts) 0 last (afterAll seen ts) (out ++ encodeAtoms ts))
   take-atoms n ws [] atoms cells seen out none numbered few some =
       (cells, rw (add-zero atoms, append-nil out) (take-end names ps fs n ws false [] sound unmarked atoms cells seen out (omega arith)))

@@ -23,7 +23,7 @@ use Rattle.writer.specs.Write.{declarations}
 use Rattle.round_trips.proofs.Printed.{Bytes, Printed, name-printed}
 use Rattle.round_trips.proofs.PrintedNumbers.{number-printed}
 use Rattle.round_trips.proofs.ReadNames.{Sound-names}
-use Rattle.round_trips.proofs.WrittenNames.{sound-name, SoundName, firstNames, names-more, name-new, first-predicate, first-function}
+use Rattle.round_trips.proofs.WrittenNames.{sound-name, Sound-name, firstNames, names-more, name-new, first-predicate, first-function}
 use Rattle.round_trips.proofs.WrittenCells.{declaredTable}
 use Rattle.round_trips.proofs.WrittenLines.{Reads, line-more}
 
@@ -32,7 +32,7 @@ arity-printed arity h = let d = number-printed arity (omega arith) in record { b
 
 -- a declaration's name and arity, behind the names before it
 symbol-new : (names : List ℕ) (predicates from m i arity at : ℕ) → i ≡ from + m → firstOf predicates i ≡ from → i * nameBytes ≤ length names
-    → SoundName names predicates i → arity ≤ maxArity
+    → Sound-name names predicates i → arity ≤ maxArity
     → symbolOf (firstNames names i) from m at (symbolToken names i) (decimal arity) ≡ Symbol arity
 symbol-new names predicates from m i arity at is e l sound h =
     rw (
@@ -55,7 +55,7 @@ module _ (names : List ℕ) (predicates functions : ℕ) (sound : Sound-names na
       → fieldsOf (predicatesTable names i ws) at (pred ∷ symbolToken names i ∷ decimal arity ∷ [])
       ≡ right (goesOn (predicatesTable names (suc i) (ws ++ arity ∷ [])))
   pred-read i arity ws at h most small =
-      let s : SoundName names predicates i = sound-name sound i (omega arith) in
+      let s : Sound-name names predicates i = sound-name sound i (omega arith) in
       let room : i * nameBytes ≤ length names = omega (arith, sound .sized) in
       rw (
         lt-ltb i maxDeclared (omega arith),
@@ -69,7 +69,7 @@ module _ (names : List ℕ) (predicates functions : ℕ) (sound : Sound-names na
       → fieldsOf (functionsTable names predicates i ws) at (func ∷ symbolToken names i ∷ decimal arity ∷ [])
       ≡ right (goesOn (functionsTable names predicates (suc i) (ws ++ arity ∷ [])))
   func-read i arity ws at some h few most small =
-      let s : SoundName names predicates i = sound-name sound i few in
+      let s : Sound-name names predicates i = sound-name sound i few in
       let room : i * nameBytes ≤ length names = omega (arith, sound .sized) in
       let one : i - predicates + 1 ≡ suc i - predicates = omega arith in
       rw (

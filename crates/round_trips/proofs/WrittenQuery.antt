@@ -19,7 +19,7 @@ use Rattle.writer.specs.Tokens.{atomTokens, line}
 use Rattle.round_trips.proofs.Printed.{name-printed}
 use Rattle.round_trips.proofs.ReadNames.{Sound-names}
 use Rattle.round_trips.proofs.WrittenCells.{Mode, modesUpTo, declaredTable, words-behind, rowAt}
-use Rattle.round_trips.proofs.WrittenAtoms.{Takes, take-atom, take-end}
+use Rattle.round_trips.proofs.WrittenAtoms.{TakesTo, take-atom, take-end}
 use Rattle.round_trips.proofs.WrittenTokens.{atom-printed}
 use Rattle.round_trips.proofs.WrittenLines.{Reads, line-last}
 
@@ -53,7 +53,7 @@ module _ (names ps fs : List ℕ) (sound : Sound-names names (length ps) (length
   query-read at =
       let m : (v : ℕ) → Mode true (getD modes v 0) = each-mode modes (modes-each (after 0 t) ground) in
       let r = rowAt modes 1 0 (length (enc t)) (after 0 t) (enc t) in
-      let taken : Takes (declaredTable names ps fs n ws) true (rowAt modes 0 0 0 0 []) (atomTokens names (length ps) modes (enc t)) r
+      let taken : TakesTo (declaredTable names ps fs n ws) true (rowAt modes 0 0 0 0 []) (atomTokens names (length ps) modes (enc t)) r
       = rw (append-nil (atomTokens names (length ps) modes (enc t)))
       at (take-atom names ps fs n ws true modes sound m t 0 0 0 [] [] r a numbered (omega arith) refl
       (take-end names ps fs n ws true modes sound m 1 (length (enc t)) (after 0 t) (enc t) (omega arith))) in
