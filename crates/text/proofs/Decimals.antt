@@ -20,5 +20,5 @@ digits-more (suc k) n h =
 pub decimal-one : (n : ℕ) → n < 10 → decimal n ≡ (digit0 + n) ∷ []
 decimal-one n h = rw (lt-ltb n 10 h)
 
-pub decimal-more : (n : ℕ) → 10 ≤ n → n < 65536 → decimal n ≡ decimal (n / 10) ++ (digit0 + n % 10) ∷ []
-decimal-more n h k = rw (le-ltb n 10 h) (ap (λ (ds : List ℕ). ds ++ (digit0 + n % 10) ∷ []) (digits-more 3 (n / 10) (omega arith)))
+pub decimal-more : (n : ℕ) → 10 ≤ n → n < 2 ^ 64 → decimal n ≡ decimal (n / 10) ++ (digit0 + n % 10) ∷ []
+decimal-more n h k = rw (le-ltb n 10 h) (ap (λ (ds : List ℕ). ds ++ (digit0 + n % 10) ∷ []) (digits-more 18 (n / 10) (omega arith)))

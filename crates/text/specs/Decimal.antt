@@ -10,6 +10,6 @@ abbrev pub digits : ℕ → ℕ → List ℕ
 digits zero n = []
 digits (suc count) n = cond (ltb n 10) ((digit0 + n) ∷ []) (digits count (n / 10) ++ (digit0 + n % 10) ∷ [])
 
--- a word has at most five digits
+-- a number of 64 bits has at most twenty digits
 abbrev pub decimal : ℕ → List ℕ
-decimal n = digits 5 n
+decimal n = digits 20 n

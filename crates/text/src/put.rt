@@ -34,7 +34,7 @@ pub fn put_bytes(out: &mut [u8], at: usize, s: &[u8]) -> usize
     end
 }
 
-fn digit(n: u16) -> u8
+fn digit(n: usize) -> u8
     requires { ⌜ n < 10 ⌝ }
     ensures { λ r. ⌜ r ≡ digit0 + n ⌝ }
 {
@@ -42,14 +42,20 @@ fn digit(n: u16) -> u8
 }
 
 // "Numbers have no leading zero."
-pub fn put_number(out: &mut [u8], at: usize, n: u16) -> usize
+pub fn put_wide(out: &mut [u8], at: usize, n: usize) -> usize
     ensures { λ r. ⌜ Put (decimal n) (now (out .entry)) (now (out .exit)) at r ⌝ }
 {
     if n < 10 {
         return put_byte(out, at, digit(n));
     }
-    let end = put_number(out, at, n / 10);
+    let end = put_wide(out, at, n / 10);
     put_byte(out, end, digit(n % 10))
+}
+
+pub fn put_number(out: &mut [u8], at: usize, n: u16) -> usize
+    ensures { λ r. ⌜ Put (decimal n) (now (out .entry)) (now (out .exit)) at r ⌝ }
+{
+    put_wide(out, at, n as usize)
 }
 
 // Name number i: its bytes before the first zero.
