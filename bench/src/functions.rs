@@ -35,83 +35,58 @@ mod library {
 
     extern "C" {
         fn threadknoll_read(
-            text: *const u8, text_len: usize,
-            words: *mut u16, words_len: usize,
-            names: *mut u8, names_len: usize,
-            reply: *mut u64, reply_len: usize,
-        );
+            text: *const u8, text_length: usize,
+            words: *mut u16, words_length: usize,
+            names: *mut u8, names_length: usize,
+            place: *mut usize, count: *mut usize,
+        ) -> u16;
         fn threadknoll_write(
-            words: *const u16, words_len: usize,
-            names: *const u8, names_len: usize,
-            text: *mut u8, text_len: usize,
-            reply: *mut u64, reply_len: usize,
-        );
+            words: *const u16, words_length: usize,
+            names: *const u8, names_length: usize,
+            text: *mut u8, text_length: usize,
+            place: *mut usize, count: *mut usize,
+        ) -> u16;
         fn threadknoll_analyse(
-            words: *const u16, words_len: usize,
-            table: *mut u16, table_len: usize,
-            reply: *mut u64, reply_len: usize,
-        );
+            words: *const u16, words_length: usize,
+            table: *mut u16, table_length: usize,
+            place: *mut usize, count: *mut usize,
+        ) -> u16;
         fn threadknoll_list(
-            words: *const u16, words_len: usize,
-            names: *const u8, names_len: usize,
-            table: *mut u16, table_len: usize,
-            out: *mut u8, out_len: usize,
-            reply: *mut u64, reply_len: usize,
-        );
+            words: *const u16, words_length: usize,
+            names: *const u8, names_length: usize,
+            table: *mut u16, table_length: usize,
+            out: *mut u8, out_length: usize,
+            place: *mut usize, count: *mut usize,
+        ) -> u16;
     }
 
-    /// No reply of document 01: seen where the library writes none.
-    const NO_ANSWER: Answer = [u64::MAX; 3];
+    /// What a call that is told where to put place and count answers.
+    fn answer(call: impl FnOnce(*mut usize, *mut usize) -> u16) -> Answer {
+        // No place and no count of document 01: seen where the library writes none.
+        let (mut place, mut count) = (usize::MAX, usize::MAX);
+        let number = call(&mut place, &mut count);
+        [u64::from(number), place as u64, count as u64]
+    }
 
     // Each call lends slices that live as long as the call, with their true lengths.
     pub const FUNCTIONS: Functions = Functions {
         read: |text, words, names| {
-            let mut reply = NO_ANSWER;
-            unsafe {
-                threadknoll_read(
-                    text.as_ptr(), text.len(),
-                    words.as_mut_ptr(), words.len(),
-                    names.as_mut_ptr(), names.len(),
-                    reply.as_mut_ptr(), reply.len(),
-                )
-            };
-            reply
+            let (t, w, n) = (text.len(), words.len(), names.len());
+            answer(|place, count| unsafe { threadknoll_read(text.as_ptr(), t, words.as_mut_ptr(), w, names.as_mut_ptr(), n, place, count) })
         },
         write: |words, names, text| {
-            let mut reply = NO_ANSWER;
-            unsafe {
-                threadknoll_write(
-                    words.as_ptr(), words.len(),
-                    names.as_ptr(), names.len(),
-                    text.as_mut_ptr(), text.len(),
-                    reply.as_mut_ptr(), reply.len(),
-                )
-            };
-            reply
+            let (w, n, t) = (words.len(), names.len(), text.len());
+            answer(|place, count| unsafe { threadknoll_write(words.as_ptr(), w, names.as_ptr(), n, text.as_mut_ptr(), t, place, count) })
         },
         analyse: |words, table| {
-            let mut reply = NO_ANSWER;
-            unsafe {
-                threadknoll_analyse(
-                    words.as_ptr(), words.len(),
-                    table.as_mut_ptr(), table.len(),
-                    reply.as_mut_ptr(), reply.len(),
-                )
-            };
-            reply
+            let (w, t) = (words.len(), table.len());
+            answer(|place, count| unsafe { threadknoll_analyse(words.as_ptr(), w, table.as_mut_ptr(), t, place, count) })
         },
         list: |words, names, table, out| {
-            let mut reply = NO_ANSWER;
-            unsafe {
-                threadknoll_list(
-                    words.as_ptr(), words.len(),
-                    names.as_ptr(), names.len(),
-                    table.as_mut_ptr(), table.len(),
-                    out.as_mut_ptr(), out.len(),
-                    reply.as_mut_ptr(), reply.len(),
-                )
-            };
-            reply
+            let (w, n, t, o) = (words.len(), names.len(), table.len(), out.len());
+            answer(|place, count| unsafe {
+                threadknoll_list(words.as_ptr(), w, names.as_ptr(), n, table.as_mut_ptr(), t, out.as_mut_ptr(), o, place, count)
+            })
         },
     };
 }
