@@ -1,6 +1,6 @@
 -- The check of the names, one after another: what one step knows.
-use Prim.Native.Nat.{ℕ, zero, suc, _+_, _-_, _*_, _≤_, _<_}
-use mathlib.Core.Path.{_≡_, refl, sym, ap, _∙_}
+use Prim.Native.Nat.{ℕ, suc, _+_, _-_, _*_, _≤_, _<_}
+use mathlib.Core.Path.{_≡_, refl, ap, _∙_}
 use mathlib.Core.Bool.{Bool, true, false, cond}
 use mathlib.Core.List.{List}
 use native.Mathlib.Omega.{arith}
@@ -8,7 +8,7 @@ use native.Mathlib.Decide.{decLt}
 use lib.ListN.{length, getD, take, drop, set}
 use lib.Seq.{getD-set-same, getD-set-other}
 use lib.Dec.{ltb}
-use borrow.Author.Tests.{lt-ltb, le-ltb, ltb-false}
+use borrow.Author.Tests.{ltb-false}
 use Rattle.program.specs.Reply.{badName}
 use Rattle.text.specs.Line.{upTo}
 use Rattle.text.specs.Name.{nameBytes, entry, markOf, Marked}

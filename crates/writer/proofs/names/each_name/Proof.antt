@@ -1,5 +1,5 @@
 -- `writer::names::each_name` meets its contract. The loop's invariant: the names from `i` on decide, and those before have their marks. Assumes nothing.
-use Prim.Native.Nat.{ℕ, _-_, _≤_, _<_}
+use Prim.Native.Nat.{_-_, _≤_}
 use mathlib.Core.Path.{_≡_, refl, sym, ap, _∙_}
 use native.Mathlib.Omega.{arith}
 use native.Mathlib.Numerals.{add-one}

@@ -1,17 +1,14 @@
 -- `writer::names::is_entry` meets its contract: the bytes before the first zero are the name. Assumes nothing.
 use Prim.Native.Nat.{ℕ}
-use mathlib.Core.Path.{_≡_, sym, ap, _∙_}
-use mathlib.Core.Bool.{_&&_}
+use mathlib.Core.Path.{sym, ap, _∙_}
 use mathlib.Core.List.{List}
 use native.Mathlib.Omega.{arith}
-use lib.ListN.{length, take}
 use lib.Seq.{length-take-le}
 use borrow.Author.Needs.{needs}
 use borrow.Author.Tests.{not-true, not-false}
 use Rattle.text.specs.Name.{padded, same}
 use Rattle.text.specs.Token.{isName}
 use Rattle.text.proofs.Cuts.{upTo-short}
-use Rattle.writer.specs.Names.{nameIn}
 use Rattle.writer.proofs.NameChecks.{name-front}
 use Rattle.writer.proofs.names.is_entry.Statement.{statement}
 use Rattle.writer.proofs.names.is_entry.Tie as tie

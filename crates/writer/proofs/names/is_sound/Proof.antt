@@ -1,15 +1,15 @@
 -- `writer::names::is_sound` meets its contract: the names before it in its kind are searched by their marks. Assumes nothing.
-use Prim.Native.Nat.{ℕ, _-_, _≤_}
-use mathlib.Core.Path.{_≡_, refl, sym, ap, _∙_}
+use Prim.Native.Nat.{ℕ, _-_}
+use mathlib.Core.Path.{sym, ap, _∙_}
 use mathlib.Core.List.{List}
 use native.Mathlib.Omega.{arith}
 use lib.ListN.{length}
 use lib.Dec.{eqb}
 use borrow.Author.Needs.{needs}
 use borrow.Author.Tests.{not-true, not-false}
-use Rattle.text.specs.Name.{nameBytes, entry, seek}
+use Rattle.text.specs.Name.{entry, seek}
 use Rattle.text.proofs.Names.{length-entry}
-use Rattle.writer.specs.Names.{isEntry, firstOf}
+use Rattle.writer.specs.Names.{isEntry}
 use Rattle.writer.proofs.NameChecks.{entry-part, first-within}
 use Rattle.writer.proofs.names.is_sound.Statement.{statement}
 use Rattle.writer.proofs.names.is_sound.Tie as tie

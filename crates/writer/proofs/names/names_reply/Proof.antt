@@ -1,5 +1,4 @@
 -- `writer::names::names_reply` meets its contract. Assumes nothing.
-use mathlib.Core.Path.{_≡_}
 use borrow.Author.Needs.{needs}
 use borrow.Author.Tests.{lt-ltb, le-ltb}
 use Rattle.writer.proofs.names.names_reply.Statement.{statement}

@@ -1,0 +1,74 @@
+-- The text of accepted words, part by part: the declarations, the clauses, the query.
+use Prim.Native.Nat.{ℕ, _+_, _-_, _≤_}
+use mathlib.Core.Path.{_≡_, sym, ap, _∙_}
+use mathlib.Core.List.{List, _++_}
+use lib.ListN.{length, getD, take, drop}
+use Rattle.terms.specs.Cells.{enc}
+use Rattle.program.specs.Program.{Program}
+use Rattle.program.specs.Within.{after, modesOf}
+use Rattle.directory.specs.Said.{said, Accepted}
+use Rattle.directory.specs.From.{Clauses-from, Goal-from}
+use Rattle.directory.proofs.AcceptedWords.{said-within, predicate-count, function-count, clause-count, predicates-are, functions-within, functions-are, clauses-within, clauses-cut, goalPart}
+use Rattle.reader.specs.Keyword.{pred, func, query}
+use Rattle.writer.specs.Tokens.{atomTokens, line}
+use Rattle.writer.specs.Write.{declarations, clauseLines, textOf}
+use Rattle.writer.specs.Walked.{Named}
+
+module _ (words : List ℕ) (a : Accepted words) (p f n : ℕ) (p-is : p ≡ getD words 0 0) (f-is : f ≡ getD words 1 0) (n-is : n ≡ getD words 2 0) where
+  abbrev program : Program
+  program = said words
+
+  -- the arities, as the code has them
+  abbrev predicates : List ℕ
+  predicates = take (3 + p - 3) (drop 3 words)
+
+  abbrev functions : List ℕ
+  functions = take (3 + p + f - (3 + p)) (drop (3 + p) words)
+
+  pub middle-is : 3 + p ≡ 3 + length (program .predicates)
+  middle-is = ap (λ (k : ℕ). 3 + k) (p-is ∙ predicate-count words a)
+
+  pub start-is : 3 + p + f ≡ 3 + p + length (program .functions)
+  start-is = ap (λ (k : ℕ). 3 + p + k) (f-is ∙ function-count words a)
+
+  pub predicates-said : predicates ≡ program .predicates
+  predicates-said = predicates-are words a (3 + p) middle-is
+
+  pub functions-said : functions ≡ program .functions
+  functions-said = functions-are words a (3 + p) middle-is (3 + p + f) start-is
+
+  pub middle-within : 3 + p ≤ length words
+  middle-within = functions-within words a (3 + p) middle-is
+
+  pub start-within : 3 + p + f ≤ length words
+  start-within = clauses-within words a (3 + p) middle-is (3 + p + f) start-is
+
+  pub named-parts : (names : List ℕ) → Named names (length (program .predicates)) (length (program .functions)) → Named names (length predicates) (length functions)
+  named-parts names h = rw (predicates-said, functions-said) h
+
+  abbrev pub clauses-to-come : Clauses-from words (3 + p + f) predicates functions n
+  clauses-to-come =
+      record {
+        clauses = program .clauses;
+        rest = goalPart program;
+        cut = clauses-cut words a (3 + p) middle-is (3 + p + f) start-is;
+        within = rw (predicates-said, functions-said) (said-within words a .clauses-within);
+        many = sym (n-is ∙ clause-count words a);
+      }
+
+  abbrev pub goal-to-come : (at : ℕ) → drop at words ≡ goalPart program → Goal-from words at predicates functions
+  goal-to-come at e =
+      record {
+        goal = program .goal;
+        ground = program .ground;
+        cut = e;
+        sound = rw (predicates-said, functions-said) (said-within words a .goal-atom);
+        numbered = said-within words a .goal-numbered;
+        marks = said-within words a .marks;
+      }
+
+  pub text-said : (names : List ℕ)
+      → ((declarations pred names 0 predicates ++ declarations func names (length predicates) functions) ++ clauseLines names (length predicates) (program .clauses))
+      ++ line query (atomTokens names (length predicates) (modesOf (after 0 (program .goal)) (program .ground)) (enc (program .goal)))
+      ≡ textOf program names
+  text-said names = rw (predicates-said, functions-said)

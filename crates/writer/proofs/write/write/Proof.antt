@@ -1,0 +1,120 @@
+-- `writer::write::write` meets its contract: the words' faults, the names' faults, the room, in this order. Assumes nothing.
+use Prim.Native.Nat.{ℕ, _+_}
+use mathlib.Core.Path.{sym, ap, ap₂, _∙_}
+use native.Mathlib.Omega.{arith}
+use lib.ListN.{length}
+use borrow.Author.Needs.{needs}
+use Rattle.program.specs.declared.reply.Reply.{Reply}
+use Rattle.directory.specs.Said.{said}
+use Rattle.directory.proofs.AcceptedWords.{said-sound, said-within, first-three, predicate-count, function-count}
+use Rattle.text.proofs.Puts.{put-length}
+use Rattle.writer.specs.Names.{namesOf, namesReply}
+use Rattle.writer.specs.Write.{replyOf, textIn}
+use Rattle.writer.proofs.Answers.{words-accepted, words-refused, names-size, names-refused, text-answered, room-decides}
+use Rattle.writer.proofs.write.write.Statement.{statement}
+use Rattle.writer.proofs.write.write.Tie as tie
+
+scan-requires : tie.Need-scan-requires
+scan-requires c κs = search needs
+
+clear-requires : tie.Need-clear-requires
+clear-requires c κs = search needs
+
+same-length : tie.Need-same-length
+same-length c = search needs
+
+returns : tie.Need-returns
+returns c =
+    let s = c .before .before .before .before .before .before .before .before .before .before .args in
+    let r = words-refused (s .words .now) (c .before .before .before .before .before .before .scan .result) (c .before .before .before .before .before .before .scan .ensures) (s .names .now) (length (s .text .now)) (c .before .before .before .before .if1 .taken) in
+    (r .0, c .before .before .clear .ensures ∙ r .1)
+
+shared-slice-read-wide : tie.Need-shared-slice-read-wide
+shared-slice-read-wide c = omega (arith, first-three _ (words-accepted (c .before .before .before .before .before .before .before .args .words .now) (c .before .before .before .scan .result) (c .before .before .before .scan .ensures) (c .before .if1 .left)))
+
+wide-requires : tie.Need-wide-requires
+wide-requires c κs = search needs
+
+shared-slice-read-wide-2 : tie.Need-shared-slice-read-wide-2
+shared-slice-read-wide-2 c = omega (arith, first-three _ (words-accepted (c .before .before .before .before .before .before .before .before .before .args .words .now) (c .before .before .before .before .before .scan .result) (c .before .before .before .before .before .scan .ensures) (c .before .before .before .if1 .left)))
+
+wide-requires-2 : tie.Need-wide-requires-2
+wide-requires-2 c κs = search needs
+
+names-reply-requires : tie.Need-names-reply-requires
+names-reply-requires c κs =
+    let words = c .before .before .before .before .before .before .before .before .before .before .args .words .now in
+    let names = c .before .before .before .before .before .before .before .before .before .before .args .names .now in
+    let a = words-accepted words (c .before .before .before .before .before .before .scan .result) (c .before .before .before .before .before .before .scan .ensures) (c .before .before .before .before .if1 .left) in
+    let p = c .before .before .wide .ensures .0 ∙ predicate-count words a in
+    let f = c .wide2 .ensures .0 ∙ function-count words a in
+    let w = said-within words a in
+    omega (arith, w .predicates-most, w .functions-most)
+
+clear-requires-2 : tie.Need-clear-requires-2
+clear-requires-2 c κs = search needs
+
+same-length-2 : tie.Need-same-length-2
+same-length-2 c = search needs
+
+returns-2 : tie.Need-returns-2
+returns-2 c =
+    let words = c .before .before .before .before .before .before .before .before .before .before .before .before .before .before .before .before .before .args .words .now in
+    let names = c .before .before .before .before .before .before .before .before .before .before .before .before .before .before .before .before .before .args .names .now in
+    let a = words-accepted words (c .before .before .before .before .before .before .before .before .before .before .before .before .before .scan .result) (c .before .before .before .before .before .before .before .before .before .before .before .before .before .scan .ensures) (c .before .before .before .before .before .before .before .before .before .before .before .if1 .left) in
+    let p = c .before .before .before .before .before .before .before .before .before .wide .ensures .0 ∙ predicate-count words a in
+    let f = c .before .before .before .before .before .before .before .wide2 .ensures .0 ∙ function-count words a in
+    let named = c .before .before .before .before .before .before .names-reply .ensures ∙ ap₂ (λ (x y : ℕ). namesReply (namesOf names x (x + y))) p f in
+    let r = names-refused words names (length (c .before .before .before .before .before .before .before .before .before .before .before .before .before .before .before .before .before .args .text .now)) (said words) (said-sound words a) (c .before .before .before .before .before .before .names-reply .result) named (c .before .before .before .before .if2 .taken) in
+    (r .0, c .before .before .clear2 .ensures ∙ r .1)
+
+put-text-requires : tie.Need-put-text-requires
+put-text-requires c κs =
+    let words = c .before .before .before .before .before .before .before .before .before .before .before .before .before .before .args .words .now in
+    let names = c .before .before .before .before .before .before .before .before .before .before .before .before .before .before .args .names .now in
+    let a = words-accepted words (c .before .before .before .before .before .before .before .before .before .before .scan .result) (c .before .before .before .before .before .before .before .before .before .before .scan .ensures) (c .before .before .before .before .before .before .before .before .if1 .left) in
+    let p = c .before .before .before .before .before .before .wide .ensures .0 ∙ predicate-count words a in
+    let f = c .before .before .before .before .wide2 .ensures .0 ∙ function-count words a in
+    let named = c .before .before .before .names-reply .ensures ∙ ap₂ (λ (x y : ℕ). namesReply (namesOf names x (x + y))) p f in
+    let w = said-within words a in
+    let n = length (said words .predicates) in
+    (a, record { few = omega (arith, w .predicates-most, w .functions-most); size = names-size names n (n + length (said words .functions)) (ap (λ (r : Reply). r .number) (sym named) ∙ c .before .if2 .left) })
+
+finish-requires : tie.Need-finish-requires
+finish-requires c κs = search needs
+
+same-length-3 : tie.Need-same-length-3
+same-length-3 c = search needs
+
+returns-3 : tie.Need-returns-3
+returns-3 c =
+    let words = c .before .before .before .before .before .before .before .before .before .before .before .before .before .before .before .before .before .before .before .before .before .args .words .now in
+    let names = c .before .before .before .before .before .before .before .before .before .before .before .before .before .before .before .before .before .before .before .before .before .args .names .now in
+    let a = words-accepted words (c .before .before .before .before .before .before .before .before .before .before .before .before .before .before .before .before .before .scan .result) (c .before .before .before .before .before .before .before .before .before .before .before .before .before .before .before .before .before .scan .ensures) (c .before .before .before .before .before .before .before .before .before .before .before .before .before .before .before .if1 .left) in
+    let p = c .before .before .before .before .before .before .before .before .before .before .before .before .before .wide .ensures .0 ∙ predicate-count words a in
+    let f = c .before .before .before .before .before .before .before .before .before .before .before .wide2 .ensures .0 ∙ function-count words a in
+    let named = c .before .before .before .before .before .before .before .before .before .before .names-reply .ensures ∙ ap₂ (λ (x y : ℕ). namesReply (namesOf names x (x + y))) p f in
+    let room = length (c .before .before .before .before .before .before .before .before .before .before .before .before .before .before .before .before .before .before .before .before .before .args .text .now) in
+    let e = room-decides (c .before .before .before .before .before .before .put-text .ensures) ∙ sym (text-answered words names room (said words) (said-sound words a) (c .before .before .before .before .before .before .before .before .before .before .names-reply .result) named (c .before .before .before .before .before .before .before .before .if2 .left)) in
+    (c .before .before .finish .ensures .0 ∙ ap replyOf e, c .before .before .finish .ensures .1 ∙ ap₂ textIn (put-length (c .before .before .before .before .before .before .put-text .ensures)) e)
+
+pub write-spec : {M : Type 1} → statement M
+write-spec =
+    tie.close
+    (tie.spec
+    scan-requires
+    clear-requires
+    same-length
+    returns
+    shared-slice-read-wide
+    wide-requires
+    shared-slice-read-wide-2
+    wide-requires-2
+    names-reply-requires
+    clear-requires-2
+    same-length-2
+    returns-2
+    put-text-requires
+    finish-requires
+    same-length-3
+    returns-3)

@@ -1,0 +1,93 @@
+// From an encoded program with names to scenario text.
+use crate::lines::put_clauses;
+use crate::lines::put_declarations;
+use crate::lines::put_query;
+use crate::names::names_reply;
+use program::reply::ACCEPTED;
+use program::reply::NO_ROOM;
+use program::reply::Reply;
+use program::scan::scan;
+use terms::walk::wide;
+use text::put::clear;
+ghost use mathlib.Core.Path.{_≡_};
+ghost use lib.ListN.{length};
+ghost use Rattle.directory.specs.Said.{said, Accepted};
+ghost use Rattle.text.specs.Put.{Put};
+ghost use Rattle.writer.specs.Write.{textOf, answerOf, replyOf, textIn};
+ghost use Rattle.writer.specs.Walked.{Named, roomed};
+
+const FIRST_ARITY: usize = 3;
+
+// The text of an accepted program whose names are sound; the place behind it, or one past the room.
+fn put_text(text: &mut [u8], words: &[u16], names: &[u8]) -> usize
+    requires { ⌜ (Accepted (now words)) × (Named (now names) (length (said (now words) .predicates)) (length (said (now words) .functions))) ⌝ }
+    ensures { λ r. ⌜ Put (textOf (said (now (words .entry))) (now (names .entry))) (now (text .entry)) (now (text .exit)) 0 r ⌝ }
+{
+    let middle = FIRST_ARITY + wide(words[0]);
+    let start = middle + wide(words[1]);
+    let count = wide(words[2]);
+    let predicates = &words[FIRST_ARITY..middle];
+    let functions = &words[middle..start];
+    let first = put_declarations(text, 0, b"pred", names, 0, predicates);
+    let second = put_declarations(text, first, b"func", names, predicates.len(), functions);
+    let walked = put_clauses(
+        text,
+        second,
+        words,
+        start,
+        count,
+        predicates,
+        functions,
+        names,
+    );
+    put_query(
+        text,
+        walked.end,
+        words,
+        walked.at,
+        predicates,
+        functions,
+        names,
+    )
+}
+
+// "then room (9)"; "lent output past what was written is 0. Every refusal zeroes all lent output."
+fn finish(text: &mut [u8], end: usize) -> Reply
+    ensures { λ r. ⌜ r ≡ replyOf (roomed (length (now (text .entry))) end (now (text .entry))) ⌝ }
+    ensures left { λ r. ⌜ now (text .exit) ≡ textIn (length (now (text .entry))) (roomed (length (now (text .entry))) end (now (text .entry))) ⌝ }
+{
+    let room = text.len();
+    if room < end {
+        clear(text, 0);
+        return Reply {
+            number: NO_ROOM,
+            place: room,
+            count: 0,
+        };
+    }
+    clear(text, end);
+    Reply {
+        number: ACCEPTED,
+        place: 0,
+        count: end,
+    }
+}
+
+// From an encoded program with its names to its text: the reply of document 01, and every lent byte after.
+pub fn write(words: &[u16], names: &[u8], text: &mut [u8]) -> Reply
+    ensures reply { λ r. ⌜ r ≡ replyOf (answerOf (now (words .entry)) (now (names .entry)) (length (now (text .entry)))) ⌝ }
+    ensures of_text { λ r. ⌜ now (text .exit) ≡ textIn (length (now (text .entry))) (answerOf (now (words .entry)) (now (names .entry)) (length (now (text .entry)))) ⌝ }
+{
+    let found = scan(words);
+    if found.number != ACCEPTED {
+        clear(text, 0);
+        return found;
+    }
+    let named = names_reply(names, wide(words[0]), wide(words[1]));
+    if named.number != ACCEPTED {
+        clear(text, 0);
+        return named;
+    }
+    let end = put_text(text, words, names);
+    finish(text, end)
+}
