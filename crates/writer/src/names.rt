@@ -12,9 +12,10 @@ use text::name::pad;
 use text::name::same_bytes;
 use text::token::is_name;
 ghost use mathlib.Core.Path.{_≡_};
-ghost use Prim.Native.Nat.{_+_, _*_, _≤_, _<_};
+ghost use Prim.Native.Nat.{_+_, _*_, _≤_};
 ghost use lib.ListN.{length};
-ghost use Rattle.text.specs.Name.{nameBytes, maxNames, entry, markOf, Marked};
+ghost use Rattle.text.specs.Name.{nameBytes, maxNames, entry, Marked};
+ghost use Rattle.writer.specs.Walked.{NameAt};
 ghost use Rattle.writer.specs.Names.{isEntry, firstOf, isSound, eachName, namesOf, namesReply};
 
 // A name, and nothing but zeros behind it.
@@ -22,11 +23,22 @@ fn is_entry(key: &[u8]) -> bool
     ensures { λ r. ⌜ r ≡ isEntry (now (key .entry)) ⌝ }
 {
     let end = find(key, 0, 0);
-    if !is_name(&key[..end]) {
+    let name = &key[..end];
+    if !is_name(name) {
         return false;
     }
-    let kept = pad(&key[..end]);
+    let kept = pad(name);
     same_bytes(&kept, key)
+}
+
+// The 16 bytes of name number i.
+fn name_at(names: &[u8], i: usize) -> &[u8]
+    requires { ⌜ NameAt (now names) i ⌝ }
+    ensures { λ r. ⌜ now r ≡ entry (now (names .entry)) i ⌝ }
+{
+    let at = i * NAME_BYTES;
+    let end = at + NAME_BYTES;
+    &names[at..end]
 }
 
 // The first name of the kind that name i is of.
@@ -41,25 +53,15 @@ fn first_of(predicates: usize, i: usize) -> usize
 
 // "a declared name is ill formed, or declared twice in its kind": whether name i is neither.
 fn is_sound(names: &[u8], marks: &[u32], predicates: usize, i: usize) -> bool
-    requires { ⌜ (i < maxNames) × (i * nameBytes + nameBytes ≤ length (now names)) × (length (now marks) ≡ maxNames) ⌝ }
+    requires { ⌜ (NameAt (now names) i) × (length (now marks) ≡ maxNames) ⌝ }
     ensures { λ r. ⌜ (Marked (now (names .entry)) (now (marks .entry)) 0 i → r ≡ isSound (now (names .entry)) predicates i) ⌝ }
 {
-    let at = i * NAME_BYTES;
-    let end = at + NAME_BYTES;
-    if !is_entry(&names[at..end]) {
+    let key = name_at(names, i);
+    if !is_entry(key) {
         return false;
     }
     let first = first_of(predicates, i);
-    find_name(names, marks, first, i, &names[at..end]) == i
-}
-
-fn mark_at(names: &[u8], i: usize) -> u32
-    requires { ⌜ (i < maxNames) × (i * nameBytes + nameBytes ≤ length (now names)) ⌝ }
-    ensures { λ r. ⌜ r ≡ markOf (entry (now (names .entry)) i) ⌝ }
-{
-    let at = i * NAME_BYTES;
-    let end = at + NAME_BYTES;
-    mark_of(&names[at..end])
+    find_name(names, marks, first, i, key) == i
 }
 
 // "then 12 at the name's byte index"
@@ -77,7 +79,7 @@ fn each_name(names: &[u8], predicates: usize, symbols: usize) -> Reply
                 count: 0,
             };
         }
-        marks[i] = mark_at(names, i);
+        marks[i] = mark_of(name_at(names, i));
         i += 1;
     }
     Reply {

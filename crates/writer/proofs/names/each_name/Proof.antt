@@ -4,8 +4,9 @@ use mathlib.Core.Path.{_≡_, refl, sym, ap, _∙_}
 use native.Mathlib.Omega.{arith}
 use native.Mathlib.Numerals.{add-one}
 use lib.ListN.{length, length-set}
+use borrow.Author.Needs.{needs}
 use borrow.Author.Tests.{not-true, not-false}
-use Rattle.text.specs.Name.{maxNames, Marked}
+use Rattle.text.specs.Name.{maxNames, markOf, Marked}
 use Rattle.writer.specs.Names.{eachName, namesReply}
 use Rattle.writer.proofs.NameChecks.{marked-more, each-stops, each-goes-on, each-ends}
 use Rattle.writer.proofs.names.each_name.Statement.{statement}
@@ -28,19 +29,21 @@ slice-aggregate-is-sound : tie.Need-slice-aggregate-is-sound Inv-loop μ-loop
 slice-aggregate-is-sound c = sym (c .before .before .loop .inv .1)
 
 is-sound-requires : tie.Need-is-sound-requires Inv-loop μ-loop
-is-sound-requires c κs = (omega arith, omega arith, c .before .before .loop .inv .1)
+is-sound-requires c κs = (record { few = omega arith; within = omega arith }, c .before .before .loop .inv .1)
 
 mul-t10 : tie.Need-mul-t10 Inv-loop μ-loop
 mul-t10 c = omega arith
 
 returns : tie.Need-returns Inv-loop μ-loop
 returns c =
-    let l = c .before .before .before .before in
-    let a = l .before .before .args in
-    sym (ap namesReply (l .loop .inv .3 ∙ each-stops (a .names .now) (a .predicates) (l .loop .i) (a .symbols) (omega arith) (sym (c .before .is-sound .ensures (l .loop .inv .2)) ∙ not-true _ (c .if1 .taken))))
+    let a = c .before .before .before .before .before .before .args in
+    sym (ap namesReply (c .before .before .before .before .loop .inv .3 ∙ each-stops (a .names .now) (a .predicates) (c .before .before .before .before .loop .i) (a .symbols) (omega arith) (sym (c .before .is-sound .ensures (c .before .before .before .before .loop .inv .2)) ∙ not-true _ (c .if1 .taken))))
 
-mark-at-requires : tie.Need-mark-at-requires Inv-loop μ-loop
-mark-at-requires c κs = (omega arith, omega arith)
+name-at-requires : tie.Need-name-at-requires Inv-loop μ-loop
+name-at-requires c κs = record { few = omega arith; within = omega arith }
+
+mark-of-requires : tie.Need-mark-of-requires Inv-loop μ-loop
+mark-of-requires c κs = search needs
 
 mul-marks : tie.Need-mul-marks Inv-loop μ-loop
 mul-marks c = omega arith
@@ -56,20 +59,18 @@ loop-less c = omega arith
 
 loop-again : tie.Need-loop-again Inv-loop μ-loop
 loop-again c =
-    let l = c .before .before .before .before .before in
-    let a = l .before .before .args in
-    let i = l .loop .i in (
+    let a = c .before .before .before .before .before .before .before .before .args in
+    let i = c .before .before .before .before .before .before .loop .i in (
       omega arith,
-      length-set (l .loop .marks) i (c .mark-at .result) ∙ l .loop .inv .1,
-      marked-more (a .names .now) (l .loop .marks) i (c .mark-at .result) (omega arith) (c .mark-at .ensures) (l .loop .inv .2),
-      rw add-one (l .loop .inv .3 ∙ each-goes-on (a .names .now) (a .predicates) i (a .symbols) (omega arith) (sym (c .before .before .is-sound .ensures (l .loop .inv .2)) ∙ not-false _ (c .before .if1 .left))),
+      length-set (c .before .before .before .before .before .before .loop .marks) i (c .mark-of .result) ∙ c .before .before .before .before .before .before .loop .inv .1,
+      marked-more (a .names .now) (c .before .before .before .before .before .before .loop .marks) i (c .mark-of .result) (omega arith) (c .mark-of .ensures ∙ ap markOf (c .before .name-at .ensures)) (c .before .before .before .before .before .before .loop .inv .2),
+      rw add-one (c .before .before .before .before .before .before .loop .inv .3 ∙ each-goes-on (a .names .now) (a .predicates) i (a .symbols) (omega arith) (sym (c .before .before .before .is-sound .ensures (c .before .before .before .before .before .before .loop .inv .2)) ∙ not-false _ (c .before .before .if1 .left))),
     )
 
 returns-2 : tie.Need-returns-2 Inv-loop μ-loop
 returns-2 c =
-    let l = c .before in
-    let a = l .before .before .args in
-    sym (ap namesReply (l .loop .inv .3 ∙ each-ends (a .names .now) (a .predicates) (l .loop .i) (a .symbols) (omega arith)))
+    let a = c .before .before .before .args in
+    sym (ap namesReply (c .before .loop .inv .3 ∙ each-ends (a .names .now) (a .predicates) (c .before .loop .i) (a .symbols) (omega arith)))
 
 pub each-name-spec : {M : Type 1} → statement M
 each-name-spec =
@@ -82,7 +83,8 @@ each-name-spec =
     is-sound-requires
     mul-t10
     returns
-    mark-at-requires
+    name-at-requires
+    mark-of-requires
     mul-marks
     array-write-marks
     add-i

@@ -16,8 +16,8 @@ use Rattle.writer.proofs.names.is_entry.Tie as tie
 find-requires : tie.Need-find-requires
 find-requires c κs = search needs
 
-slice-aggregate-is-name : tie.Need-slice-aggregate-is-name
-slice-aggregate-is-name c =
+slice-aggregate-name : tie.Need-slice-aggregate-name
+slice-aggregate-name c =
     let key = c .before .before .before .args .key .now in
     let s = upTo-short 0 key in
     sym (length-take-le (c .before .find .result) key (omega (arith, c .before .find .ensures)))
@@ -31,12 +31,6 @@ returns c =
     let front = name-front key (c .before .before .before .find .result) (c .before .before .before .find .ensures) in
     rw (sym (ap isName front) ∙ sym (c .before .is-name .ensures) ∙ not-true _ (c .if1 .taken))
 
-slice-aggregate-pad : tie.Need-slice-aggregate-pad
-slice-aggregate-pad c =
-    let key = c .before .before .before .before .before .before .args .key .now in
-    let s = upTo-short 0 key in
-    sym (length-take-le (c .before .before .before .before .find .result) key (omega (arith, c .before .before .before .before .find .ensures)))
-
 pad-requires : tie.Need-pad-requires
 pad-requires c κs = search needs
 
@@ -48,9 +42,9 @@ same-bytes-requires c κs = search needs
 
 returns-2 : tie.Need-returns-2
 returns-2 c =
-    let key = c .before .before .before .before .before .before .before .before .before .args .key .now in
-    let front = name-front key (c .before .before .before .before .before .before .before .find .result) (c .before .before .before .before .before .before .before .find .ensures) in
-    rw (sym (ap isName front) ∙ sym (c .before .before .before .before .before .is-name .ensures) ∙ not-false _ (c .before .before .before .before .if1 .left))
+    let key = c .before .before .before .before .before .before .before .before .args .key .now in
+    let front = name-front key (c .before .before .before .before .before .before .find .result) (c .before .before .before .before .before .before .find .ensures) in
+    rw (sym (ap isName front) ∙ sym (c .before .before .before .before .is-name .ensures) ∙ not-false _ (c .before .before .before .if1 .left))
     (c .same-bytes .ensures ∙ ap (λ (l : List ℕ). same l key) (c .before .before .pad .ensures ∙ ap padded front))
 
 pub is-entry-spec : {M : Type 1} → statement M
@@ -58,10 +52,9 @@ is-entry-spec =
     tie.close
     (tie.spec
     find-requires
-    slice-aggregate-is-name
+    slice-aggregate-name
     is-name-requires
     returns
-    slice-aggregate-pad
     pad-requires
     slice-aggregate-same-bytes
     same-bytes-requires
