@@ -2,3 +2,7 @@
 pub mod ListedOnce
 pub mod Samples
 pub mod LetterLaws
+pub mod RowLaws
+pub mod CellLaws
+pub mod Tails
+pub mod LineLaws

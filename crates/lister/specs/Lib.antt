@@ -3,3 +3,5 @@ pub mod Letters
 pub mod Listing
 pub mod Listed
 pub mod Set
+pub mod Lines
+pub mod Asked

@@ -1,0 +1,72 @@
+-- The parts of a row's line by the row's words, and what the functions that write one line are asked. For the code alone: readers go by `Listing`.
+use Prim.Native.Nat.{ℕ, _+_, _-_, _*_, _≤_, _<_}
+use mathlib.Core.Path.{_≡_}
+use mathlib.Core.Bool.{cond}
+use mathlib.Core.List.{List, [], _∷_, _++_}
+use lib.ListN.{length, getD}
+use lib.Dec.{eqb}
+use Rattle.terms.specs.Term.{Occ}
+use Rattle.terms.specs.Cells.{firstVariable}
+use Rattle.program.specs.Program.{Program}
+use Rattle.program.specs.Shapes.{Listed}
+use Rattle.table.specs.Rules.{Row, call, cont, solution}
+use Rattle.table.specs.Table.{rowSize, rowWords}
+use Rattle.table.specs.Keys.{Regular}
+use Rattle.steps.specs.Situation.{Setting}
+use Rattle.text.specs.Decimal.{decimal}
+use Rattle.text.specs.Name.{nameBytes, maxNames}
+use Rattle.lister.specs.Listing.{callWord, contWord, solWord, dot, shapeAt, clauseAt}
+
+-- "kind (1 call, 2 cont, 3 solution)"
+abbrev pub kindWord : ℕ → List ℕ
+kindWord kind = cond (eqb kind 1) callWord (cond (eqb kind 2) contWord solWord)
+
+-- "shape (or clause.place)"
+abbrev pub aboutToken : ℕ → ℕ → ℕ → List ℕ
+aboutToken kind a b = decimal a ++ cond (eqb kind 2) (dot ∷ decimal b) []
+
+-- the variables of a row's shape, or of the list of its place
+abbrev pub VariableOf : Program → Row ℕ → ℕ → Type 0
+VariableOf p (call s mask) v = Occ v (shapeAt p s)
+VariableOf p (cont n i mask) v = Listed (clauseAt p n) (i - 1) v
+VariableOf p (solution s mask) v = Occ v (shapeAt p s)
+
+-- a row of the program by its words
+pub record AboutRow (dir : List ℕ) (kind a b : ℕ) : Type 0 where
+  pub words : List ℕ
+  pub p : Program
+  pub setting : Setting words dir p
+  pub row : Row ℕ
+  pub regular : Regular p row
+  pub mask : ℕ
+  pub row-is : rowWords row ≡ kind ∷ a ∷ b ∷ mask ∷ []
+
+-- row r of the table
+pub record RowIn (dir table : List ℕ) (r : ℕ) : Type 0 where
+  pub words : List ℕ
+  pub p : Program
+  pub setting : Setting words dir p
+  pub round : ℕ
+  pub row : Row ℕ
+  pub regular : Regular p row
+  pub fits : rowSize * r + 4 < length table
+  pub round-is : round ≡ getD table (rowSize * r) 0
+  pub row-is :
+      rowWords row
+      ≡ getD table (rowSize * r + 1) 0 ∷ getD table (rowSize * r + 2) 0 ∷ getD table (rowSize * r + 3) 0 ∷ getD table (rowSize * r + 4) 0 ∷ []
+
+-- name number n is among the names
+abbrev pub NameIn : List ℕ → ℕ → Type 0
+NameIn names n = (n < maxNames) × (n * nameBytes + nameBytes ≤ length names)
+
+-- an argument's cell is a variable's, or its name is there
+abbrev pub ArgumentIn : List ℕ → ℕ → ℕ → Type 0
+ArgumentIn names predicates w = w < firstVariable → NameIn names (predicates + w)
+
+abbrev pub ArgumentsIn : List ℕ → ℕ → List ℕ → Type 0
+ArgumentsIn names predicates cells = (i : ℕ) → i < length cells → ArgumentIn names predicates (getD cells i 0)
+
+-- the names of an atom's cells are there
+abbrev pub CellsIn : List ℕ → ℕ → List ℕ → Type 0
+CellsIn names predicates [] = ⊥
+CellsIn names predicates (w ∷ ws) = NameIn names w × ArgumentsIn names predicates ws
