@@ -6,3 +6,4 @@ pub mod RowLaws
 pub mod CellLaws
 pub mod Tails
 pub mod LineLaws
+pub mod Replies

@@ -1,0 +1,67 @@
+// The lister: from a program with its names, the table in lent words and its listing in lent bytes.
+use crate::listing::listing;
+use analysis::analyse::analyse;
+use directory::directory;
+use program::reply::ACCEPTED;
+use program::reply::NO_ROOM;
+use program::reply::Reply;
+use program::scan::scan;
+use rows::zeros::zero;
+use terms::walk::wide;
+use text::put::clear;
+use writer::names::names_reply;
+ghost use lib.ListN.{length};
+ghost use Rattle.lister.specs.Listed.{Refused, Listed};
+ghost use Rattle.lister.specs.Asked.{ListAsked};
+
+// "Every refusal zeroes all lent output."
+fn refuse(number: u16, place: usize, table: &mut [u16], out: &mut [u8]) -> Reply
+    ensures { λ r. ⌜ Refused (length (now (table .entry))) (length (now (out .entry))) number place r (now (table .exit)) (now (out .exit)) ⌝ }
+{
+    zero(table);
+    clear(out, 0);
+    Reply {
+        number,
+        place,
+        count: 0,
+    }
+}
+
+// The table has its rows: their listing, where it has room.
+fn listed(words: &[u16], names: &[u8], rows: usize, table: &mut [u16], out: &mut [u8]) -> Reply
+    requires { ⌜ ListAsked (now words) (now names) (now table) rows ⌝ }
+    ensures { λ r. ⌜ Listed (now (words .entry)) (now (names .entry)) (length (now (table .entry))) (length (now (out .entry))) r (now (table .exit)) (now (out .exit)) ⌝ }
+{
+    let mut dir = [0u16; 9550];
+    directory(words, &mut dir);
+    let predicates = wide(words[0]);
+    let size = listing(&dir, names, predicates, table, rows, out);
+    if out.len() < size {
+        return refuse(NO_ROOM, out.len(), table, out);
+    }
+    clear(out, size);
+    Reply {
+        number: ACCEPTED,
+        place: 0,
+        count: size,
+    }
+}
+
+// "After all faults in the words, writer and lister check the names"; "then room (9), .. rows before listing".
+pub fn list(words: &[u16], names: &[u8], table: &mut [u16], out: &mut [u8]) -> Reply
+    ensures { λ r. ⌜ Listed (now (words .entry)) (now (names .entry)) (length (now (table .entry))) (length (now (out .entry))) r (now (table .exit)) (now (out .exit)) ⌝ }
+{
+    let scanned = scan(words);
+    if scanned.number != ACCEPTED {
+        return refuse(scanned.number, scanned.place, table, out);
+    }
+    let named = names_reply(names, wide(words[0]), wide(words[1]));
+    if named.number != ACCEPTED {
+        return refuse(named.number, named.place, table, out);
+    }
+    let analysed = analyse(words, table);
+    if analysed.number != ACCEPTED {
+        return refuse(analysed.number, analysed.place, table, out);
+    }
+    listed(words, names, analysed.count, table, out)
+}
