@@ -1,0 +1,85 @@
+-- "Show these shut out": none of the wrong analyses of `Wrong` keeps the promise on *Legs* and *Late call*, whatever it makes up and whatever analysis it goes wrong over.
+-- The idea: the promise has one reply and one table for each of the two, and a wrong one's are other.
+use Prim.Native.Nat.{ℕ, suc, _≤_, min}
+use native.Mathlib.Omega.{arith}
+use mathlib.Core.Path.{_≡_, refl, sym, ap, _∙_}
+use mathlib.Core.List.{List}
+use lib.ListN.{length, getD}
+use Rattle.marks.specs.Modes.{modes}
+use Rattle.program.specs.Program.{Program}
+use Rattle.program.specs.Reply.{accepted}
+use Rattle.program.specs.Faults.{sound, faults}
+use Rattle.program.specs.declared.reply.Reply.{Reply}
+use Rattle.program.proofs.Samples.{legs as legs-words}
+use Rattle.table.specs.Rules.{call, solution}
+use Rattle.table.proofs.TableSamples.{late-words}
+use Rattle.table.proofs.PromiseMet.{promise-met}
+use Rattle.runs.specs.Cover.{CoversRuns}
+use Rattle.runs.specs.TableRows.{StandsIn}
+use Rattle.demands.specs.Wrong.{Left, Analysis, Keeps, refusing, constant, writingNothing, roundOf, maskOf, allInRoundOne, inventedCount, inventedRound, everythingAny}
+use Rattle.demands.proofs.Demand3.{every-run-covered}
+use Rattle.demands.proofs.WrongTables.{lent, legs-left, late-left, on-legs, on-late, each-on-legs, each-on-late, stands-any, covered-any}
+
+-- the promise can be kept on all words with every table lent
+pub right-one : (a : Analysis) × ((words lent : List ℕ) → Keeps a words lent)
+right-one = (
+  λ words lent. record { reply = promise-met words (length lent) .0; table = promise-met words (length lent) .1 },
+  λ words lent. promise-met words (length lent) .2,
+)
+
+-- "refusing always"
+pub refusing-shut-out : (number place : List ℕ → List ℕ → ℕ) → Keeps (refusing number place) legs-words lent → ⊥
+refusing-shut-out number place keeps =
+    let e : suc (number legs-words lent) ≡ accepted = ap (λ (r : Reply). r .number) (on-legs (refusing number place) keeps .0) in omega arith
+
+-- "one constant table"
+pub constant-shut-out : (reply : List ℕ → List ℕ → Reply) (table : List ℕ)
+    → Keeps (constant reply table) legs-words lent → Keeps (constant reply table) late-words lent → ⊥
+constant-shut-out reply table keeps keeps′ =
+    let e : legs-left ≡ late-left = sym (on-legs (constant reply table) keeps .1) ∙ on-late (constant reply table) keeps′ .1 in
+    let d : _≡_ {A = ℕ} 1 0 = ap (λ (ws : List ℕ). getD ws 9 0) e in omega arith
+
+-- "writing nothing"
+pub writing-nothing-shut-out : (reply : List ℕ → List ℕ → Reply) → Keeps (writingNothing reply) legs-words lent → ⊥
+writing-nothing-shut-out reply keeps =
+    let d : _≡_ {A = ℕ} 0 1 = ap (λ (ws : List ℕ). getD ws 1 0) (on-legs (writingNothing reply) keeps .1) in omega arith
+
+-- "finding all in round 1 and idling later"
+pub all-in-round-one-shut-out : (a : Analysis) → Keeps (allInRoundOne a) legs-words lent → ⊥
+all-in-round-one-shut-out a keeps =
+    let each = each-on-legs (λ row. roundOf row ≤ 1) (λ row. min (roundOf row) 1) maskOf (λ words rest. omega arith) a keeps in
+    let d : _≤_ 2 1 = each .1 .1 .1 .0 in omega arith
+
+-- "an invented row count": no function of the room is right for both
+pub invented-count-shut-out : (f : ℕ → ℕ) (a : Analysis)
+    → Keeps (inventedCount f a) legs-words lent → Keeps (inventedCount f a) late-words lent → ⊥
+invented-count-shut-out f a keeps keeps′ =
+    let d : f 50 ≡ 7 = ap (λ (r : Reply). r .count) (on-legs (inventedCount f a) keeps .0) in
+    let e : f 50 ≡ 9 = ap (λ (r : Reply). r .count) (on-late (inventedCount f a) keeps′ .0) in omega arith
+
+-- "an invented .. round": no function of a row is right for both; the goal's solution with mask 1 comes in round 3 of *Legs* and round 4 of *Late call*
+pub invented-round-shut-out : (f : ℕ → ℕ → ℕ → ℕ → ℕ) (a : Analysis)
+    → Keeps (inventedRound f a) legs-words lent → Keeps (inventedRound f a) late-words lent → ⊥
+invented-round-shut-out f a keeps keeps′ =
+    let round : List ℕ → ℕ = λ row. f (getD row 1 0) (getD row 2 0) (getD row 3 0) (getD row 4 0) in
+    let d : 3 ≡ f 3 0 0 1 = each-on-legs (λ row. roundOf row ≡ round row) round maskOf (λ words rest. refl) a keeps .1 .1 .1 .1 .1 .0 in
+    let e : 4 ≡ f 3 0 0 1 = each-on-late (λ row. roundOf row ≡ round row) round maskOf (λ words rest. refl) a keeps′ .1 .1 .1 .1 .1 .1 .0 in
+    omega arith
+
+-- "marking everything any"
+pub everything-any-shut-out : (a : Analysis) → Keeps (everythingAny a) legs-words lent → ⊥
+everything-any-shut-out a keeps =
+    let d : _≡_ {A = ℕ} 1 0 = each-on-legs (λ row. maskOf row ≡ 0) roundOf (λ row. 0) (λ words rest. refl) a keeps .0 in omega arith
+
+-- "which would satisfy demand 3's sentence by itself": over an analysis that keeps the promise, its table covers every run
+pub everything-any-covers-runs : (a : Analysis) (words lent : List ℕ) (p : Program) → faults words ≡ sound p
+    → Keeps a words lent → a words lent .reply .number ≡ accepted
+    → CoversRuns modes p (p .ground) (StandsIn (a words lent .reply .count) (everythingAny a words lent .table))
+everything-any-covers-runs a words lent p says keeps number-0 =
+    let count = a words lent .reply .count in
+    let table = a words lent .table in
+    let covers = every-run-covered words p says (length lent) (a words lent .reply) table keeps number-0 in
+    record {
+      calls = λ n s A called. let (M, row, by) = covers .calls n s A called in (0, stands-any count table (call s M) row, covered-any p s M A by);
+      solutions = λ n s A solved. let (M, row, by) = covers .solutions n s A solved in (0, stands-any count table (solution s M) row, covered-any p s M A by);
+    }
