@@ -2,3 +2,5 @@
 pub mod Demand3
 pub mod WrongTables
 pub mod ShutOut
+pub mod StarredSamples
+pub mod Starred

@@ -1,4 +1,4 @@
--- "Show these shut out": none of the wrong analyses of `Wrong` keeps the promise on *Legs* and *Late call*, whatever it makes up and whatever analysis it goes wrong over.
+-- "Show these shut out": no wrong analysis of `Wrong` keeps the promise on *Legs* and *Late call*, whatever it makes up and whatever analysis it goes wrong over.
 -- The idea: the promise has one reply and one table for each of the two, and a wrong one's are other.
 use Prim.Native.Nat.{ℕ, suc, _≤_, min}
 use native.Mathlib.Omega.{arith}
@@ -10,13 +10,12 @@ use Rattle.program.specs.Program.{Program}
 use Rattle.program.specs.Reply.{accepted}
 use Rattle.program.specs.Faults.{sound, faults}
 use Rattle.program.specs.declared.reply.Reply.{Reply}
-use Rattle.program.proofs.Samples.{legs as legs-words}
 use Rattle.table.specs.Rules.{call, solution}
-use Rattle.table.proofs.TableSamples.{late-words}
 use Rattle.table.proofs.PromiseMet.{promise-met}
 use Rattle.runs.specs.Cover.{CoversRuns}
 use Rattle.runs.specs.TableRows.{StandsIn}
-use Rattle.demands.specs.Wrong.{Left, Analysis, Keeps, refusing, constant, writingNothing, roundOf, maskOf, allInRoundOne, inventedCount, inventedRound, everythingAny}
+use Rattle.demands.specs.Wrong.{Analysis, Keeps, refusing, constant, writingNothing, roundOf, maskOf, allInRoundOne, inventedCount, inventedRound, everythingAny}
+use Rattle.demands.specs.Starred.{legs-words, late-words}
 use Rattle.demands.proofs.Demand3.{every-run-covered}
 use Rattle.demands.proofs.WrongTables.{lent, legs-left, late-left, on-legs, on-late, each-on-legs, each-on-late, stands-any, covered-any}
 

@@ -12,15 +12,15 @@ use Rattle.marks.proofs.Modes.{modes-sound}
 use Rattle.program.specs.Program.{Program}
 use Rattle.program.specs.Reply.{done}
 use Rattle.program.specs.declared.reply.Reply.{Reply}
-use Rattle.program.proofs.Samples.{legs as legs-words, legs-read}
 use Rattle.table.specs.Rules.{Row, call, cont, solution}
-use Rattle.table.specs.Table.{rowWords, tableWords, Promise, listed}
-use Rattle.table.proofs.Samples.{legs}
-use Rattle.table.proofs.TableSamples.{legs-entries, legs-table, late-words, late-entries, late-accepted}
+use Rattle.table.specs.Table.{rowWords, tableWords}
+use Rattle.table.proofs.TableSamples.{legs-entries, late-entries}
 use Rattle.table.proofs.Promise.{promise-unique}
 use Rattle.runs.specs.Cover.{Covered}
 use Rattle.runs.specs.TableRows.{StandsIn}
-use Rattle.demands.specs.Wrong.{Left, Analysis, Keeps, changed, over, roundOf}
+use Rattle.demands.specs.Wrong.{Analysis, Keeps, changed, over, roundOf}
+use Rattle.demands.specs.Starred.{legs-words, late-words}
+use Rattle.demands.proofs.StarredSamples.{legs-leaves, late-leaves}
 
 -- room for ten rows
 abbrev pub lent : List ℕ
@@ -33,14 +33,11 @@ legs-left = tableWords legs-entries ++ replicate 15 0
 abbrev pub late-left : List ℕ
 late-left = tableWords late-entries ++ replicate 5 0
 
-legs-asked : Promise legs-words 50 (done 7) legs-left
-legs-asked = listed legs legs-entries legs-read legs-table (omega arith) refl refl
-
 pub on-legs : (a : Analysis) → Keeps a legs-words lent → (a legs-words lent .reply ≡ done 7) × (a legs-words lent .table ≡ legs-left)
-on-legs a keeps = promise-unique legs-words 50 _ _ _ _ keeps legs-asked
+on-legs a keeps = promise-unique legs-words 50 _ _ _ _ keeps (legs-leaves 50 (omega arith))
 
 pub on-late : (a : Analysis) → Keeps a late-words lent → (a late-words lent .reply ≡ done 9) × (a late-words lent .table ≡ late-left)
-on-late a keeps = promise-unique late-words 50 _ _ _ _ keeps late-accepted
+on-late a keeps = promise-unique late-words 50 _ _ _ _ keeps late-leaves
 
 -- what holds of each of the first n rows
 abbrev pub EachRow : (List ℕ → Type 0) → ℕ → List ℕ → Type 0

@@ -1,8 +1,8 @@
 -- Wrong analyses, as functions of the words and the lent table: those that the promise is to shut out. All but the first three go wrong over any other analysis.
 use Prim.Native.Nat.{ℕ, zero, suc, min}
-use mathlib.Core.List.{List, [], _∷_}
+use mathlib.Core.List.{List, _∷_}
 use lib.ListN.{length, replicate, getD, drop}
-use Rattle.program.specs.Reply.{refused, done}
+use Rattle.program.specs.Reply.{refused}
 use Rattle.program.specs.declared.reply.Reply.{Reply}
 use Rattle.table.specs.Table.{Promise}
 
@@ -57,7 +57,11 @@ inventedRound f = over (λ row. f (getD row 1 0) (getD row 2 0) (getD row 3 0) (
 
 -- "an invented row count": made up from the room
 abbrev pub inventedCount : (ℕ → ℕ) → Analysis → Analysis
-inventedCount f a words lent = record { reply = record { number = a words lent .reply .number; place = a words lent .reply .place; count = f (length lent) }; table = a words lent .table }
+inventedCount f a words lent =
+    record {
+      reply = record { number = a words lent .reply .number; place = a words lent .reply .place; count = f (length lent) };
+      table = a words lent .table;
+    }
 
 -- "marking everything any"
 abbrev pub everythingAny : Analysis → Analysis
