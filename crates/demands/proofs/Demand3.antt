@@ -1,4 +1,6 @@
--- Demand 3, every run is covered, said of the words that an accepted analysis leaves.
+-- Demand 3: "Every run is covered. Any accepted program and goal, any instance with ground terms for the ground variables, run left to right for any number of steps
+-- with fresh clauses and any finite unifying substitution, most general or not: every atom called is covered by a call row of demand 2's table with the shape it was
+-- written in, every atom solved by a solution row of that shape." Here of the rows that stand in the words which an accepted analysis leaves; `Demand2`: the least set's.
 use Prim.Native.Nat.{ℕ}
 use mathlib.Core.Path.{_≡_}
 use mathlib.Core.List.{List}
@@ -11,16 +13,16 @@ use Rattle.program.specs.Reply.{accepted}
 use Rattle.program.specs.Faults.{sound, faults}
 use Rattle.program.specs.declared.reply.Reply.{Reply}
 use Rattle.table.specs.Rules.{call, solution}
-use Rattle.table.specs.Table.{Promise}
 use Rattle.table.proofs.Promise.{sound-same}
 use Rattle.runs.specs.Run.{Called, Solved}
 use Rattle.runs.specs.Cover.{Covered, CoversRuns}
 use Rattle.runs.specs.TableRows.{StandsIn}
 use Rattle.runs.proofs.TableRuns.{promise-trusted}
+use Rattle.demands.specs.Promises.{Analyses}
 
--- "Any accepted program and goal": words that say the program p, and any room, reply and table of the analysis' promise with number 0
+-- "Any accepted program and goal": words that say the program p, and a reply with number 0 and a table that the analysis promises
 module _ (words : List ℕ) (p : Program) (says : faults words ≡ sound p)
-    (size : ℕ) (reply : Reply) (table : List ℕ) (promised : Promise words size reply table) (number-0 : reply .number ≡ accepted) where
+    (size : ℕ) (reply : Reply) (table : List ℕ) (promised : Analyses words size reply table) (number-0 : reply .number ≡ accepted) where
   pub every-run-covered : CoversRuns modes p (p .ground) (StandsIn (reply .count) table)
   every-run-covered = let t = promise-trusted words size reply table promised number-0 in rw (sound-same _ (t .says) says) at (t .covers)
 

@@ -15,7 +15,7 @@ use Rattle.table.proofs.PromiseMet.{promise-met}
 use Rattle.runs.specs.Cover.{CoversRuns}
 use Rattle.runs.specs.TableRows.{StandsIn}
 use Rattle.demands.specs.Wrong.{Analysis, Keeps, refusing, constant, writingNothing, roundOf, maskOf, allInRoundOne, inventedCount, inventedRound, everythingAny}
-use Rattle.demands.specs.Starred.{legs-words, late-words}
+use Rattle.demands.specs.SamplePrograms.{legs-words, late-words}
 use Rattle.demands.proofs.Demand3.{every-run-covered}
 use Rattle.demands.proofs.WrongTables.{lent, legs-left, late-left, on-legs, on-late, each-on-legs, each-on-late, stands-any, covered-any}
 

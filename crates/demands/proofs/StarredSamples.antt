@@ -21,12 +21,16 @@ use Rattle.table.proofs.Samples.{legs, late}
 use Rattle.table.proofs.Promise.{more-than-length}
 use Rattle.table.proofs.PromiseMet.{rows, tableAt, computed-table}
 use Rattle.table.proofs.TableSamples.{legs-entries, legs-table, late-entries, late-table}
+use Rattle.reader.specs.Table.{right}
 use Rattle.reader.specs.Read.{readOf}
-use Rattle.demands.specs.Sample.{_in-round_, says, misread, leaves, too-many, faulty, Holds}
-use Rattle.demands.specs.Starred.{legs-text, legs-words, itself-text, itself-words, late-text, late-words, cells-32-text, cells-33-text, nested-words, v15-text, v16-text, many-words}
+use Rattle.lister.specs.Listed.{namesFor, listed as by-listing}
+use Rattle.demands.specs.Bytes.{named}
+use Rattle.demands.specs.Sample.{_in-round_, says, misread, leaves, too-many, lists, faulty, Holds}
+use Rattle.demands.specs.SamplePrograms.{legs-text, legs-words, legs-names, legs-rows, legs-listing, itself-text, itself-words, late-text, late-words, late-rows}
+use Rattle.demands.specs.SamplePrograms.{cells-32-text, cells-33-text, nested-words, v15-text, v16-text, many-words}
 
 -- the texts
-pub legs-says : Holds (says legs-text legs-words ("follow" ∷ "leg" ∷ "a" ∷ "b" ∷ []))
+pub legs-says : Holds (says legs-text legs-words legs-names)
 unfolding readOf
 legs-says = refl
 
@@ -59,17 +63,25 @@ pub legs-sound : faults legs-words ≡ sound legs
 unfolding bounded several terms atom atoms clause goal written declared whole faults
 legs-sound = refl
 
-pub legs-leaves : (size : ℕ) → 7 ≤ roomIn size → Holds (leaves legs-words size legs-entries)
+pub legs-leaves : (size : ℕ) → 7 ≤ roomIn size → Holds (leaves legs-words size legs-rows)
 legs-leaves size room = listed legs legs-entries legs-sound legs-table room refl refl
 
 pub legs-too-many : Holds (too-many legs-words 34 6)
 legs-too-many = full legs legs-sound (more-than-length legs legs-entries legs-table 6 .1 (omega arith)) refl refl
 
+legs-named : namesFor legs (named legs-names) ≡ right (named legs-names)
+legs-named = refl
+
+pub legs-lists : Holds (lists legs-words legs-names 35 135 legs-rows legs-listing)
+unfolding ℕ-discrete
+legs-lists =
+    by-listing legs legs-rows (record { program = legs-sound; named = legs-named; rows = legs-table; analysed = legs-leaves 35 (omega arith) }) (omega arith) refl refl
+
 late-sound : faults late-words ≡ sound late
 unfolding bounded several terms atom atoms clause goal written declared whole faults
 late-sound = refl
 
-pub late-leaves : Holds (leaves late-words 50 late-entries)
+pub late-leaves : Holds (leaves late-words 50 late-rows)
 late-leaves = listed late late-entries late-sound late-table (omega arith) refl refl
 
 -- the occurs check: the goal and the only head are apart

@@ -14,12 +14,11 @@ use Rattle.program.specs.Reply.{done}
 use Rattle.program.specs.declared.reply.Reply.{Reply}
 use Rattle.table.specs.Rules.{Row, call, cont, solution}
 use Rattle.table.specs.Table.{rowWords, tableWords}
-use Rattle.table.proofs.TableSamples.{legs-entries, late-entries}
 use Rattle.table.proofs.Promise.{promise-unique}
 use Rattle.runs.specs.Cover.{Covered}
 use Rattle.runs.specs.TableRows.{StandsIn}
 use Rattle.demands.specs.Wrong.{Analysis, Keeps, changed, over, roundOf}
-use Rattle.demands.specs.Starred.{legs-words, late-words}
+use Rattle.demands.specs.SamplePrograms.{legs-words, legs-rows, late-words, late-rows}
 use Rattle.demands.proofs.StarredSamples.{legs-leaves, late-leaves}
 
 -- room for ten rows
@@ -28,10 +27,10 @@ lent = replicate 50 0
 
 -- the one table of each of the two
 abbrev pub legs-left : List ℕ
-legs-left = tableWords legs-entries ++ replicate 15 0
+legs-left = tableWords legs-rows ++ replicate 15 0
 
 abbrev pub late-left : List ℕ
-late-left = tableWords late-entries ++ replicate 5 0
+late-left = tableWords late-rows ++ replicate 5 0
 
 pub on-legs : (a : Analysis) → Keeps a legs-words lent → (a legs-words lent .reply ≡ done 7) × (a legs-words lent .table ≡ legs-left)
 on-legs a keeps = promise-unique legs-words 50 _ _ _ _ keeps (legs-leaves 50 (omega arith))

@@ -7,8 +7,10 @@ use lib.ListN.{length, replicate}
 use Rattle.program.specs.Reply.{noRoom, refused, done}
 use Rattle.table.specs.Rules.{Row}
 use Rattle.table.specs.Table.{Entry, rowSize, tableWords, Promise}
+use Rattle.text.specs.Room.{inRoom}
 use Rattle.reader.specs.Table.{wrong, right}
 use Rattle.reader.specs.Read.{readOf}
+use Rattle.lister.specs.Listed.{Listed}
 use Rattle.demands.specs.Bytes.{bytes, named}
 
 infix 68 _in-round_
@@ -26,16 +28,23 @@ pub data Sample : Type 0 where
   leaves : (words : List ℕ) (size : ℕ) (rows : List Entry) → Sample
   -- the analysis, with so many words of table lent, has no room: the place is the room in rows
   too-many : (words : List ℕ) (size : ℕ) (room : ℕ) → Sample
+  -- the listing of the words with these names, with so many words of table and so many bytes lent, is exactly this, and the table has these rows
+  lists : (words : List ℕ) (names : List String) (size room : ℕ) (rows : List Entry) (listing : String) → Sample
   -- the words are refused with this number and place, whatever the room
   faulty : (words : List ℕ) (number place : ℕ) → Sample
 
--- what the definitions must say of it; the promise has one reply and one table (`promise-unique`)
+-- the words of a table of so many words with these rows: "Words after the last row are 0."
+abbrev pub table-of : ℕ → List Entry → List ℕ
+table-of size rows = tableWords rows ++ replicate (size - rowSize * length rows) 0
+
+-- what the definitions must say of it; each promise has one reply and leaves one thing (`Demand1`)
 abbrev pub Holds : Sample → Type 0
 Holds (says text words names) = readOf (bytes text) ≡ right (record { words = words; names = named names })
 Holds (misread text number place) = readOf (bytes text) ≡ wrong number place
-Holds (leaves words size rows) =
-    Promise words size (done (length rows)) (tableWords rows ++ replicate (size - rowSize * length rows) 0)
+Holds (leaves words size rows) = Promise words size (done (length rows)) (table-of size rows)
 Holds (too-many words size room) = Promise words size (refused noRoom room) (replicate size 0)
+Holds (lists words names size room rows listing) =
+    Listed words (named names) size room (done (length (bytes listing))) (table-of size rows) (inRoom room (bytes listing))
 Holds (faulty words number place) = (size : ℕ) → Promise words size (refused number place) (replicate size 0)
 
 -- all of a list hold

@@ -1,0 +1,122 @@
+-- Demand 1 of `analyse` and of `list`, from the laws on their promises: met, and by one reply alone.
+use Prim.Native.Nat.{ℕ, _+_, _<_}
+use native.Mathlib.Omega.{arith}
+use mathlib.Core.Path.{_≡_, refl, sym, ap, _∙_, subst}
+use mathlib.Core.Logic.{_⊎_, inl, inr, _↔_}
+use mathlib.Core.List.{List}
+use lib.ListN.{length, replicate}
+use Rattle.program.specs.Program.{Program}
+use Rattle.program.specs.Faults.{Found, fault, sound, faults}
+use Rattle.program.specs.Reply.{accepted, noRoom}
+use Rattle.program.specs.declared.reply.Reply.{Reply}
+use Rattle.table.specs.Table.{Entry, roomIn, TableOf, MoreThan, Promise, faulty as by-fault, listed as by-table, full, unmarked}
+use Rattle.table.proofs.FaultNumbers.{fault-number}
+use Rattle.table.proofs.Promise.{table-once, fault-or-sound, sound-same, promise-unique, no-room-more, accepted-listed, refused-zeros, neither-never}
+use Rattle.table.proofs.PromiseMet.{promise-met}
+use Rattle.reader.specs.Table.{right}
+use Rattle.lister.specs.Listing.{listingOf}
+use Rattle.lister.specs.Listed.{namesFor, Refused, Listed, faulty, misnamed, unlisted, over, listed}
+use Rattle.lister.proofs.ListedOnce.{listed-unique, listed-met}
+use Rattle.round_trips.proofs.ReadFaults.{FaultyBy, FaultNumber}
+use Rattle.round_trips.proofs.WriteFaults.{names-faults}
+use Rattle.demands.specs.Promises.{Analyses, AnalyseLarger, Lists, ListLarger}
+use Rattle.demands.specs.Replies.{Replies}
+use Rattle.demands.proofs.ReadReplies.{wrong-or-right}
+
+numbers : {r r′ : Reply} → r ≡ r′ → r .number ≡ r′ .number
+numbers e = ap (λ (r : Reply). r .number) e
+
+module _ (words : List ℕ) (size : ℕ) where
+  analyse-room : (r : Reply) (t : List ℕ) → Promise words size r t → (r .number ≡ noRoom) ↔ AnalyseLarger words size
+  analyse-room r t promised = found (faults words) refl
+    where
+      found : (o : Found) → faults words ≡ o → (r .number ≡ noRoom) ↔ AnalyseLarger words size
+      found (fault n q) e =
+          let same = numbers (promise-unique words size _ _ _ _ promised (by-fault n q e refl refl) .0) in
+          let h = fault-number words n q e in
+          (λ d. absurd (omega arith), λ (p, s, m). absurd (fault-or-sound _ e s))
+      found (sound p) e =
+          (λ d. (p, e, no-room-more words size r t p e promised .0 d), λ (p′, s, m). no-room-more words size r t p′ s promised .1 m)
+
+  analyse-place : (r : Reply) (t : List ℕ) → Promise words size r t → r .number ≡ accepted → r .place ≡ 0
+  analyse-place r t promised d = ap (λ (r : Reply). r .place) (accepted-listed words size r t promised d .4)
+
+  pub analysing-replies : Replies (Analyses words size) (replicate size 0) (AnalyseLarger words size)
+  analysing-replies =
+      let (r, t, promised) = promise-met words size in
+      record {
+        reply = r;
+        left = t;
+        promised = promised;
+        only = λ r′ t′ promised′. promise-unique words size r′ r t′ t promised′ promised;
+        accepted-place = analyse-place r t promised;
+        refused-zeros = λ n. let (z, c) = refused-zeros words size r t promised n in (c, z);
+        no-room = analyse-room r t promised;
+      }
+
+  -- a sound program is refused only where there is no room
+  sound-refused : (p : Program) → faults words ≡ sound p → (r : Reply) (t : List ℕ) → Promise words size r t → (r .number ≡ accepted → ⊥) → r .number ≡ noRoom
+  sound-refused p e r t (by-fault n q f d z) h = absurd (fault-or-sound _ f e)
+  sound-refused p e r t (by-table p′ es f k l d z) h = absurd (h (numbers d))
+  sound-refused p e r t (full p′ f k d z) h = numbers d
+  sound-refused p e r t (unmarked p′ f k d z) h = absurd (neither-never p′ k)
+
+module _ (words names : List ℕ) (size room : ℕ) where
+  abbrev listZeros : List ℕ × List ℕ
+  listZeros = (replicate size 0, replicate room 0)
+
+  -- what is said of a reply, a table and a listing
+  record ListAnswer (r : Reply) (t o : List ℕ) : Type 0 where
+    place : r .number ≡ accepted → r .place ≡ 0
+    zeros : (r .number ≡ accepted → ⊥) → (r .count ≡ 0) × (t ≡ replicate size 0) × (o ≡ replicate room 0)
+    room-is : (r .number ≡ noRoom) ↔ ListLarger words names size room
+
+  refusal : {n q : ℕ} {r : Reply} {t o : List ℕ} → Refused size room n q r t o → (n ≡ accepted → ⊥) → (n ≡ noRoom) ↔ ListLarger words names size room → ListAnswer r t o
+  refusal z h (to, from) = record {
+    place = λ d. absurd (h (sym (numbers (z .reply-is)) ∙ d));
+    zeros = λ _. (ap (λ (r : Reply). r .count) (z .reply-is), z .table-zero, z .out-zero);
+    room-is = (λ d. to (sym (numbers (z .reply-is)) ∙ d), λ l. numbers (z .reply-is) ∙ from l);
+  }
+
+  list-answer : (r : Reply) (t o : List ℕ) → Listed words names size room r t o → ListAnswer r t o
+  list-answer r t o (faulty n q f z) =
+      let h = fault-number words n q f in refusal z (λ d. omega arith) (λ d. absurd (omega arith), λ (p, s, m, l). absurd (fault-or-sound _ f s))
+  list-answer r t o (misnamed p n q f w z) = refusal z (λ d. omega (arith, h .0)) (λ d. absurd (h .1 d), λ (p′, s, m, l). absurd (named p′ s m))
+    where
+      h : FaultNumber n
+      h = subst FaultyBy w (names-faults names (length (p .predicates)) (length (p .predicates) + length (p .functions)))
+
+      named : (p′ : Program) → faults words ≡ sound p′ → namesFor p′ names ≡ right names → ⊥
+      named p′ s m = wrong-or-right _ (rw (sound-same _ f s) at w) m
+  list-answer r t o (unlisted p n q ze f w a d z) =
+      refusal z d (λ e. (p, f, w, inl (no-room-more words size _ ze p f a .0 e)), λ _. sound-refused words size p f _ ze a d)
+  list-answer r t o (over p es fu a l z) =
+      refusal z (λ d. omega arith) (λ _. (p, a .program, a .named, inr (es, a .rows, l)), λ _. refl)
+  list-answer r t o (listed p es a l e g) = record {
+    place = λ _. ap (λ (r : Reply). r .place) e;
+    zeros = λ n. absurd (n (numbers e));
+    room-is = (λ d. absurd (let b : accepted ≡ noRoom = sym (numbers e) ∙ d in omega arith), λ (p′, s, m, x). absurd (larger p′ s x));
+  }
+    where
+      larger : (p′ : Program) → faults words ≡ sound p′
+          → MoreThan p′ (roomIn size) ⊎ ((es′ : List Entry) × TableOf p′ es′ × (room < length (listingOf p′ names es′))) → ⊥
+      larger p′ s (inl more) = let b : accepted ≡ noRoom = no-room-more words size _ t p′ s (a .analysed) .1 more in omega arith
+      larger p′ s (inr (es′, h, more)) =
+          let same = sound-same _ (a .program) s in
+          let one = table-once p′ es es′ (rw same at (a .rows)) h in
+          let k : length (listingOf p names es) ≡ length (listingOf p′ names es′) = rw (same, one) in
+          omega arith
+
+  pub listing-replies : Replies (Lists words names size room) listZeros (ListLarger words names size room)
+  listing-replies =
+      let (r, t, o, promised) = listed-met words names size room in
+      let all = list-answer r t o promised in
+      record {
+        reply = r;
+        left = (t, o);
+        promised = promised;
+        only = λ r′ left promised′. let (e, f, g) = listed-unique words names size room r′ r (left .0) t (left .1) o promised′ promised in (e, λ i. (f i, g i));
+        accepted-place = all .place;
+        refused-zeros = λ n. let (c, f, g) = all .zeros n in (c, λ i. (f i, g i));
+        no-room = all .room-is;
+      }
