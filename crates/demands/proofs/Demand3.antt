@@ -1,6 +1,7 @@
 -- Demand 3: "Every run is covered. Any accepted program and goal, any instance with ground terms for the ground variables, run left to right for any number of steps
 -- with fresh clauses and any finite unifying substitution, most general or not: every atom called is covered by a call row of demand 2's table with the shape it was
 -- written in, every atom solved by a solution row of that shape." Here of the rows that stand in the words which an accepted analysis leaves; `Demand2`: the least set's.
+-- It is not empty: `runs` has a worked run whose substitution is not most general (`LegsRun`), and a table with one row missing that does not cover (`WrongTable`).
 use Prim.Native.Nat.{ℕ}
 use mathlib.Core.Path.{_≡_}
 use mathlib.Core.List.{List}
