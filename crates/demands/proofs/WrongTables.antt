@@ -17,7 +17,7 @@ use Rattle.table.specs.Table.{rowWords, tableWords}
 use Rattle.table.proofs.Promise.{promise-unique}
 use Rattle.runs.specs.Cover.{Covered}
 use Rattle.runs.specs.TableRows.{StandsIn}
-use Rattle.demands.specs.Wrong.{Analysis, Keeps, changed, over, roundOf}
+use Rattle.demands.specs.Wrong.{Analysis, Keeps, EachRow, AllRows, roundOf, changed}
 use Rattle.demands.specs.SamplePrograms.{legs-words, legs-rows, late-words, late-rows}
 use Rattle.demands.proofs.StarredSamples.{legs-leaves, late-leaves}
 
@@ -38,27 +38,20 @@ on-legs a keeps = promise-unique legs-words 50 _ _ _ _ keeps (legs-leaves 50 (om
 pub on-late : (a : Analysis) → Keeps a late-words lent → (a late-words lent .reply ≡ done 9) × (a late-words lent .table ≡ late-left)
 on-late a keeps = promise-unique late-words 50 _ _ _ _ keeps late-leaves
 
--- what holds of each of the first n rows
-abbrev pub EachRow : (List ℕ → Type 0) → ℕ → List ℕ → Type 0
-EachRow P zero words = Unit {0}
-EachRow P (suc n) words = P words × EachRow P n (drop 5 words)
+-- what holds of each row that is left holds of each row of the one table
+module _ (P : List ℕ → Type 0) (a : Analysis) where
+  pub each-on-legs : AllRows P (a legs-words lent) → Keeps a legs-words lent → EachRow P 7 legs-left
+  each-on-legs each keeps = let (r, t) = on-legs a keeps in rw (t, ap (λ (r : Reply). r .count) r) at each
 
-module _ (P : List ℕ → Type 0) (round mask : List ℕ → ℕ)
-    (h : (words rest : List ℕ) → P (round words ∷ getD words 1 0 ∷ getD words 2 0 ∷ getD words 3 0 ∷ mask words ∷ rest)) where
-  -- what holds of a row with its round and mask made up holds of each row that is changed
-  each-changed : (n : ℕ) (words : List ℕ) → EachRow P n (changed round mask n words)
-  each-changed zero words = tt
-  each-changed (suc n) words = (h words _, each-changed n (drop 5 words))
+  pub each-on-late : AllRows P (a late-words lent) → Keeps a late-words lent → EachRow P 9 late-left
+  each-on-late each keeps = let (r, t) = on-late a keeps in rw (t, ap (λ (r : Reply). r .count) r) at each
 
-  pub each-on-legs : (a : Analysis) → Keeps (over round mask a) legs-words lent → EachRow P 7 legs-left
-  each-on-legs a keeps =
-      let (r, t) = on-legs (over round mask a) keeps in
-      rw (t, ap (λ (r : Reply). r .count) r) at (each-changed (a legs-words lent .reply .count) (a legs-words lent .table))
-
-  pub each-on-late : (a : Analysis) → Keeps (over round mask a) late-words lent → EachRow P 9 late-left
-  each-on-late a keeps =
-      let (r, t) = on-late (over round mask a) keeps in
-      rw (t, ap (λ (r : Reply). r .count) r) at (each-changed (a late-words lent .reply .count) (a late-words lent .table))
+-- what holds of a row with its round and mask made up holds of each row that is changed
+pub each-changed : (P : List ℕ → Type 0) (round mask : List ℕ → ℕ)
+    → ((words rest : List ℕ) → P (round words ∷ getD words 1 0 ∷ getD words 2 0 ∷ getD words 3 0 ∷ mask words ∷ rest))
+    → (n : ℕ) (words : List ℕ) → EachRow P n (changed round mask n words)
+each-changed P round mask h zero words = tt
+each-changed P round mask h (suc n) words = (h words _, each-changed P round mask h n (drop 5 words))
 
 -- the row with no mark
 abbrev pub anyRow : Row ℕ → Row ℕ

@@ -31,6 +31,20 @@ constant reply table words lent = record { reply = reply words lent; table = tab
 abbrev pub writingNothing : (List ℕ → List ℕ → Reply) → Analysis
 writingNothing reply words lent = record { reply = reply words lent; table = lent }
 
+-- what holds of each row that an analysis leaves, from its round on; a row is five words, and the reply counts them
+abbrev pub EachRow : (List ℕ → Type 0) → ℕ → List ℕ → Type 0
+EachRow P zero words = Unit {0}
+EachRow P (suc n) words = P words × EachRow P n (drop 5 words)
+
+abbrev pub AllRows : (List ℕ → Type 0) → Left → Type 0
+AllRows P left = EachRow P (left .reply .count) (left .table)
+
+abbrev pub roundOf : List ℕ → ℕ
+roundOf row = getD row 0 0
+
+abbrev pub maskOf : List ℕ → ℕ
+maskOf row = getD row 4 0
+
 -- the first n rows of five words with another round and another mask, each made of the row's words
 abbrev pub changed : (round mask : List ℕ → ℕ) → ℕ → List ℕ → List ℕ
 changed round mask zero words = words
@@ -41,19 +55,16 @@ abbrev pub over : (round mask : List ℕ → ℕ) → Analysis → Analysis
 over round mask a words lent =
     record { reply = a words lent .reply; table = changed round mask (a words lent .reply .count) (a words lent .table) }
 
-abbrev pub roundOf : List ℕ → ℕ
-roundOf row = getD row 0 0
-
-abbrev pub maskOf : List ℕ → ℕ
-maskOf row = getD row 4 0
-
 -- "finding all in round 1 and idling later"
 abbrev pub allInRoundOne : Analysis → Analysis
 allInRoundOne = over (λ row. min (roundOf row) 1) maskOf
 
 -- "an invented .. round": made up from the row's kind, a, b and mask
+abbrev pub madeUp : (ℕ → ℕ → ℕ → ℕ → ℕ) → List ℕ → ℕ
+madeUp f row = f (getD row 1 0) (getD row 2 0) (getD row 3 0) (getD row 4 0)
+
 abbrev pub inventedRound : (ℕ → ℕ → ℕ → ℕ → ℕ) → Analysis → Analysis
-inventedRound f = over (λ row. f (getD row 1 0) (getD row 2 0) (getD row 3 0) (getD row 4 0)) maskOf
+inventedRound f = over (madeUp f) maskOf
 
 -- "an invented row count": made up from the room
 abbrev pub inventedCount : (ℕ → ℕ) → Analysis → Analysis
