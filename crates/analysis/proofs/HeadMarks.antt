@@ -1,22 +1,20 @@
 -- Marks on a clause's head: where the clause stands in the directory, which marks the set has, and what they end in.
-use Prim.Native.Nat.{ℕ, zero, suc, _+_, _-_, _*_, _/_, _%_, _^_, _≤_, _<_}
+use Prim.Native.Nat.{ℕ, _+_, _/_, _%_, _^_, _≤_, _<_}
 use native.Mathlib.Omega.{arith}
 use native.Mathlib.Decide.{decLt}
-use mathlib.Core.Path.{_≡_, refl, sym, ap, subst, _∙_}
+use mathlib.Core.Path.{_≡_, sym, ap, subst}
 use mathlib.Core.Logic.{_⊎_, inl, inr, ⊎-elim, _↔_}
-use mathlib.Core.List.{List, List·Memᴰ, List·Memᴰ·not-nil}
+use mathlib.Core.List.{List, List·Memᴰ·not-nil}
 use lib.ListN.{length, getD, replicate, List·getD-eq-default}
 use Rattle.terms.specs.Term.{Term, Subst, app, sub, All, Occ}
 use Rattle.terms.specs.Cells.{Atom}
-use Rattle.terms.specs.Mask.{Has, Marks}
-use Rattle.terms.proofs.Masks.{has-none, marks-for}
+use Rattle.terms.proofs.Masks.{has-none, marks-for, marks-below}
 use Rattle.terms.proofs.Substs.{occ-all, all-occ}
 use Rattle.terms.proofs.Variables.{occ-decided}
 use Rattle.marks.specs.Pass.{Known, Pass}
 use Rattle.marks.specs.Modes.{modes, Kept}
 use Rattle.marks.proofs.Modes.{keptOf, keptOf-kept}
-use Rattle.program.specs.Program.{Nth, Clause, Program}
-use Rattle.program.specs.Shapes.{shapes}
+use Rattle.program.specs.Program.{Clause, Program}
 use Rattle.program.proofs.ShapeLaws.{nth-same}
 use Rattle.directory.specs.Directory.{predicateOf}
 use Rattle.rows.specs.Rows.{masks, slotAt, maskAt, keysOf}
@@ -25,13 +23,13 @@ use Rattle.rows.proofs.Keys.{key-listed}
 use Rattle.rows.proofs.MaskSets.{none-in-zeros}
 use Rattle.table.specs.Rules.{Row, call, Reached, first, next}
 use Rattle.table.specs.Steps.{opens, makes, EndsIn, ends-in, on-head}
-use Rattle.table.specs.NewRows.{New, NewReached, new-on-head, NewEnds, LateCalls}
+use Rattle.table.specs.NewRows.{New, NewReached, new-on-head, NewEnds}
 use Rattle.table.specs.RoundKeys.{Keyed}
 use Rattle.table.proofs.Lists.{nth-below}
 use Rattle.table.proofs.NewRows.{new-reached}
-use Rattle.table.proofs.ShapeVariables.{marks-below, atom-variables}
+use Rattle.table.proofs.ShapeVariables.{atom-variables}
 use Rattle.steps.specs.Steps.{RowsIn}
-use Rattle.steps.specs.Situation.{Situation, HeadAsked}
+use Rattle.steps.specs.Situation.{HeadAsked}
 use Rattle.steps.specs.Since.{SinceIn}
 use Rattle.steps.specs.Heads.{ReachedSince, HeadMark, Marked, Solved, solved, SolveAsked}
 use Rattle.analysis.specs.Clauses.{AtEnd}

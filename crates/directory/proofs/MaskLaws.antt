@@ -1,7 +1,5 @@
 -- Masks of the variables of atoms: they fit a word, and those of several atoms are put together.
-use Prim.Native.Nat.{ℕ, zero, suc, _+_, _-_, _/_, _^_, _<_}
-use native.Mathlib.Omega.{arith}
-use native.Mathlib.Nat.{pow-succ'}
+use Prim.Native.Nat.{ℕ, _+_, _-_, _<_}
 use mathlib.Core.Path.{_≡_, _∙_}
 use mathlib.Core.Logic.{_↔_}
 use mathlib.Core.List.{List}
@@ -10,20 +8,11 @@ use Rattle.terms.specs.Term.{Occ}
 use Rattle.terms.specs.Cells.{variables, enc}
 use Rattle.terms.specs.Mask.{Has, Marks}
 use Rattle.terms.specs.Walk.{InRun, Cells, Present}
-use Rattle.terms.proofs.Masks.{halved, has-none, same-marks}
+use Rattle.terms.proofs.Masks.{marks-below}
 use Rattle.directory.specs.Lists.{Variables-at}
 use Rattle.directory.proofs.Cuts.{middle-part}
 use Rattle.directory.proofs.TermCells.{atom-all-cells, atom-in-run}
 use Rattle.directory.proofs.ShapeVariables.{atom-occ}
-
--- a mask that marks no variable from n on is below 2^n
-pub marks-below : (n m : ℕ) → ((v : ℕ) → Has m v → v < n) → m < 2 ^ n
-marks-below zero m h =
-    let e : m ≡ 0 = same-marks m 0 (λ v. (λ b. absurd (let l = h v b in omega arith), λ b. absurd (has-none v b))) in
-    rw e (omega arith)
-marks-below (suc n) m h =
-    let below : m / 2 < 2 ^ n = marks-below n (m / 2) (λ v b. let l = h (suc v) (rw (← halved m v) b) in omega arith) in
-    rw (pow-succ' 2 n) (omega arith)
 
 module _ (words : List ℕ) (start cells : ℕ) (a : Variables-at words start cells) where
   run-is : take (start + cells - start) (drop start words) ≡ enc (a .atom)

@@ -6,6 +6,7 @@ use mathlib.Core.List.{List}
 use lib.ListN.{length, getD}
 use Rattle.terms.specs.Term.{Term, Occ}
 use Rattle.terms.specs.Cells.{variables, Atom}
+use Rattle.terms.proofs.Masks.{marks-below}
 use Rattle.program.specs.Program.{Nth, Clause, Program}
 use Rattle.program.specs.Limits.{maxDeclared}
 use Rattle.program.proofs.ShapeLaws.{nth-same}
@@ -15,7 +16,6 @@ use Rattle.directory.proofs.Cuts.{nth-within}
 use Rattle.rows.specs.Rows.{masks}
 use Rattle.rows.specs.MaskSet.{setWords, InSet}
 use Rattle.table.proofs.Promise.{sound-same}
-use Rattle.table.proofs.ShapeVariables.{marks-below}
 use Rattle.steps.specs.Situation.{Situation}
 use Rattle.steps.specs.Heads.{HeadMark, SolveAsked}
 use Rattle.steps.proofs.Meetings.{setting-within}

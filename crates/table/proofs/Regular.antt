@@ -9,7 +9,7 @@ use borrow.Author.Tests.{lt-ltb, le-ltb}
 use Rattle.terms.specs.Term.{Term, Terms, var, app, nil, cons, Occ, Occs}
 use Rattle.terms.specs.Cells.{variables}
 use Rattle.terms.specs.Mask.{Has}
-use Rattle.terms.proofs.Masks.{has-below}
+use Rattle.terms.proofs.Masks.{has-below, marks-below}
 use Rattle.terms.proofs.Substs.{sub-occ}
 use Rattle.marks.specs.Modes.{modes}
 use Rattle.marks.proofs.Passing.{pass-within}
@@ -25,7 +25,7 @@ use Rattle.table.specs.Rules.{Row, call, calls, conts, solves}
 use Rattle.table.specs.Rounds.{At, Closed}
 use Rattle.table.specs.Keys.{masks, Regular, regular-call, regular-cont, regular-solution}
 use Rattle.table.proofs.RoundLaws.{at-within}
-use Rattle.table.proofs.ShapeVariables.{marks-below, each-member, atom-variables, atoms-variables, in-take, shape-variables}
+use Rattle.table.proofs.ShapeVariables.{each-member, atom-variables, atoms-variables, in-take, shape-variables}
 
 -- after variable x, no variable is met but x and those met before
 pub meet-occurs : (seen x v : ℕ) → x ≤ seen → v < meet seen x → (v < seen) ⊎ (v ≡ x)

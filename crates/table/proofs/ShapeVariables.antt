@@ -1,7 +1,6 @@
 -- The variables of a program within the limits: those of its atoms, clauses and shapes are at most 15, and its shapes and body atoms are few.
-use Prim.Native.Nat.{ℕ, zero, suc, _+_, _*_, _/_, _^_, _≤_, _<_}
+use Prim.Native.Nat.{ℕ, zero, suc, _+_, _*_, _≤_, _<_}
 use native.Mathlib.Omega.{arith}
-use native.Mathlib.Nat.{pow-succ'}
 use native.Mathlib.Decide.{ℕ-discrete}
 use mathlib.Core.Path.{_≡_, sym}
 use mathlib.Core.Logic.{_⊎_, inl, inr, ⊎-elim}
@@ -9,8 +8,6 @@ use mathlib.Core.List.{List, [], _∷_, map, List·Memᴰ, List·Memᴰ·head, L
 use lib.ListN.{length, take, length-append, length-map}
 use Rattle.terms.specs.Term.{Term, Terms, sameTerm, var, app, nil, cons, Occ, Occs}
 use Rattle.terms.specs.Cells.{variables, Keeps, Keepss, Atom}
-use Rattle.terms.specs.Mask.{Has}
-use Rattle.terms.proofs.Masks.{halved, has-none, same-marks}
 use Rattle.terms.proofs.Substs.{occ-sub}
 use Rattle.program.specs.Limits.{maxBody}
 use Rattle.program.specs.Program.{Nth, Clause, Program, bodies}
@@ -22,13 +19,6 @@ use Rattle.table.specs.Table.{Distinct}
 use Rattle.table.specs.Keys.{Few}
 use Rattle.table.proofs.Lists.{has-with, has-map, nth-below}
 use Rattle.table.proofs.Distinct.{distinct-length}
-
--- a mask that marks variables below n alone is below 2^n
-pub marks-below : (n m : ℕ) → ((v : ℕ) → Has m v → v < n) → m < 2 ^ n
-marks-below zero m h = let e = same-marks m 0 (λ v. (λ o. absurd (let l = h v o in omega arith), λ o. absurd (has-none v o))) in omega arith
-marks-below (suc n) m h =
-    let l = marks-below n (m / 2) (λ v o. let l = h (suc v) (rw (halved m v) at o) in omega arith) in
-    rw pow-succ' (omega arith)
 
 pub each-member : {A : Type 0} {P : A → Type 0} {l : List A} {a : A} → Each P l → List·Memᴰ a l → P a
 each-member {P = P} {a = a} (more h hs) m = ⊎-elim (λ (e : _). rw e h) (each-member hs) (List·Memᴰ·cases-cons m)

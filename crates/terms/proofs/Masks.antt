@@ -90,6 +90,13 @@ same-below (suc n) m m′ p q h =
 pub same-marks : (m m′ : ℕ) → ((v : ℕ) → Has m v ↔ Has m′ v) → m ≡ m′
 same-marks m m′ h = same-below (m + m′) m m′ (omega arith) (omega arith) h
 
+-- a mask that marks variables below n alone is below 2^n
+pub marks-below : (n m : ℕ) → ((v : ℕ) → Has m v → v < n) → m < 2 ^ n
+marks-below zero m h = let e = same-marks m 0 (λ v. (λ o. absurd (let l = h v o in omega arith), λ o. absurd (has-none v o))) in omega arith
+marks-below (suc n) m h =
+    let l = marks-below n (m / 2) (λ v o. let l = h (suc v) (rw (halved m v) at o) in omega arith) in
+    rw pow-succ' (omega arith)
+
 pub marks-unique : (P : ℕ → Type 0) (m m′ : ℕ) → Marks P m → Marks P m′ → m ≡ m′
 marks-unique P m m′ h h′ = same-marks m m′ (λ v. (λ b. h′ v .1 (h v .0 b), λ b. h v .1 (h′ v .0 b)))
 
