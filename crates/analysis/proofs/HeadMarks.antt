@@ -11,6 +11,7 @@ use Rattle.terms.specs.Cells.{Atom}
 use Rattle.terms.proofs.Masks.{has-none, marks-for, marks-below}
 use Rattle.terms.proofs.Substs.{occ-all, all-occ}
 use Rattle.terms.proofs.Variables.{occ-decided}
+use Rattle.terms.proofs.Binding.{atom-variables}
 use Rattle.marks.specs.Pass.{Known, Pass}
 use Rattle.marks.specs.Modes.{modes, Kept}
 use Rattle.marks.proofs.Modes.{keptOf, keptOf-kept}
@@ -27,7 +28,6 @@ use Rattle.table.specs.NewRows.{New, NewReached, new-on-head, NewEnds}
 use Rattle.table.specs.RoundKeys.{Keyed}
 use Rattle.table.proofs.Lists.{nth-below}
 use Rattle.table.proofs.NewRows.{new-reached}
-use Rattle.table.proofs.ShapeVariables.{atom-variables}
 use Rattle.steps.specs.Steps.{RowsIn}
 use Rattle.steps.specs.Situation.{HeadAsked}
 use Rattle.steps.specs.Since.{SinceIn}

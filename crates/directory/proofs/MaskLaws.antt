@@ -9,10 +9,10 @@ use Rattle.terms.specs.Cells.{variables, enc}
 use Rattle.terms.specs.Mask.{Has, Marks}
 use Rattle.terms.specs.Walk.{InRun, Cells, Present}
 use Rattle.terms.proofs.Masks.{marks-below}
+use Rattle.terms.proofs.Binding.{atom-variables}
 use Rattle.directory.specs.Lists.{Variables-at}
 use Rattle.directory.proofs.Cuts.{middle-part}
 use Rattle.directory.proofs.TermCells.{atom-all-cells, atom-in-run}
-use Rattle.directory.proofs.ShapeVariables.{atom-occ}
 
 module _ (words : List ℕ) (start cells : ℕ) (a : Variables-at words start cells) where
   run-is : take (start + cells - start) (drop start words) ≡ enc (a .atom)
@@ -28,4 +28,4 @@ module _ (words : List ℕ) (start cells : ℕ) (a : Variables-at words start ce
       (λ b. same .0 (q .0 b), λ o. q .1 (same .1 o))
 
   pub present-fits : (mask : ℕ) → Present (take (start + cells - start) (drop start words)) mask → mask < 65536
-  present-fits mask h = marks-below variables mask (λ v b. atom-occ (a .predicates) (a .functions) (a .atom) v (a .sound) (present-marks mask h v .0 b))
+  present-fits mask h = marks-below variables mask (λ v b. atom-variables (a .sound) v (present-marks mask h v .0 b))

@@ -9,7 +9,7 @@ use lib.ListN.{length, length-append, length-map}
 use Rattle.terms.specs.Term.{Term, Terms, var, app, nil, cons, Occ, Occs}
 use Rattle.terms.specs.Cells.{variables, Atom}
 use Rattle.terms.proofs.Substs.{occ-sub, sub-occ}
-use Rattle.terms.proofs.Binding.{keepss-below}
+use Rattle.terms.proofs.Binding.{atom-variables}
 use Rattle.program.specs.Shapes.{place, with, met, mets, number, shapeOf}
 use Rattle.program.specs.Within.{after, afters, Numbered, Numbereds}
 use Rattle.program.proofs.ShapeLaws.{place-nth, met-has, map-has}
@@ -109,10 +109,6 @@ shape-variables A v = (there, back)
         let (x, m, e) = met-onto A [] (λ n l. absurd (omega arith)) v h in
         sub-occ A (λ y. var (number A y)) x v (met-occurs A x m) (sym e)
 
--- each variable of an atom is at most 15
-pub atom-occ : (P F : List ℕ) (A : Term) (v : ℕ) → Atom P F A → Occ v A → v < variables
-atom-occ P F A v a o = keepss-below F (a .arguments) (a .keeps) v (rw (a .is) at o)
-
 -- "v is at most 15", so that there are at most 16
 pub met-few : (P F : List ℕ) (A : Term) → Atom P F A → length (met [] A) ≤ variables
 met-few P F A a =
@@ -122,7 +118,7 @@ met-few P F A a =
     found : (n : ℕ) → n < length (met [] A) → List·Memᴰ n (map (number A) (upTo variables))
     found n h =
         let (x, m, e) = met-onto A [] (λ k l. absurd (omega arith)) n h in
-        rw (← e) (map-has (number A) (upTo variables) x (upTo-has variables x (atom-occ P F A x a (met-occurs A x m))))
+        rw (← e) (map-has (number A) (upTo variables) x (upTo-has variables x (atom-variables a x (met-occurs A x m))))
 
 -- "variables are numbered from 0 by first appearance"
 mutual

@@ -7,6 +7,7 @@ use mathlib.Core.List.{List}
 use lib.ListN.{length, getD}
 use Rattle.terms.specs.Cells.{variables}
 use Rattle.terms.specs.Mask.{Has}
+use Rattle.terms.proofs.Binding.{atom-variables}
 use Rattle.marks.specs.Modes.{modes, Kept, Renumbered, Reordered}
 use Rattle.marks.proofs.RowMasks.{kept-by-list, reordered-renumbered}
 use Rattle.program.specs.Program.{Program}
@@ -22,7 +23,7 @@ use Rattle.table.specs.Rules.{Row, call, cont, Reached, calls, conts}
 use Rattle.table.specs.Steps.{GoesOn, goes-call, goes-cont}
 use Rattle.table.specs.Keys.{firstCont, bodyIndex, keyOf}
 use Rattle.table.specs.RoundKeys.{Keyed}
-use Rattle.table.proofs.ShapeVariables.{atom-variables, number-below}
+use Rattle.table.proofs.ShapeVariables.{number-below}
 use Rattle.table.proofs.Steps.{goes-two}
 use Rattle.steps.specs.Situation.{Place}
 use Rattle.steps.specs.Steps.{RowsIn, Writable, Stepped, Emitted, emitted-call, emitted-cont}

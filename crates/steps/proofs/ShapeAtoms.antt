@@ -6,13 +6,14 @@ use mathlib.Core.List.{List}
 use lib.ListN.{length, length-map}
 use Rattle.terms.specs.Term.{Term, Terms, var, app, nil, cons, count, Subst, sub, subs, Occ, Occs}
 use Rattle.terms.specs.Cells.{variables, enc, Keeps, Keepss, Atom}
+use Rattle.terms.proofs.Binding.{atom-variables}
 use Rattle.program.specs.Limits.{maxDeclared}
 use Rattle.program.specs.Program.{Nth, Program}
 use Rattle.program.specs.Shapes.{number, shapeOf, shapes}
 use Rattle.program.specs.Within.{WithinLimits}
 use Rattle.directory.specs.Numbers.{renamed}
 use Rattle.directory.proofs.TermCells.{atom-renamed}
-use Rattle.table.proofs.ShapeVariables.{atom-variables, number-below, shape-atom}
+use Rattle.table.proofs.ShapeVariables.{number-below, shape-atom}
 
 count-subs : (ts : Terms) (σ : Subst) → count (subs ts σ) ≡ count ts
 count-subs nil σ = refl

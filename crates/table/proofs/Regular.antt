@@ -11,6 +11,7 @@ use Rattle.terms.specs.Cells.{variables}
 use Rattle.terms.specs.Mask.{Has}
 use Rattle.terms.proofs.Masks.{has-below, marks-below}
 use Rattle.terms.proofs.Substs.{sub-occ}
+use Rattle.terms.proofs.Binding.{atom-variables}
 use Rattle.marks.specs.Modes.{modes}
 use Rattle.marks.proofs.Passing.{pass-within}
 use Rattle.program.specs.Program.{Nth, Clause, Program}
@@ -25,7 +26,7 @@ use Rattle.table.specs.Rules.{Row, call, calls, conts, solves}
 use Rattle.table.specs.Rounds.{At, Closed}
 use Rattle.table.specs.Keys.{masks, Regular, regular-call, regular-cont, regular-solution}
 use Rattle.table.proofs.RoundLaws.{at-within}
-use Rattle.table.proofs.ShapeVariables.{each-member, atom-variables, atoms-variables, in-take, shape-variables}
+use Rattle.table.proofs.ShapeVariables.{each-member, atoms-variables, in-take, shape-variables}
 
 -- after variable x, no variable is met but x and those met before
 pub meet-occurs : (seen x v : ℕ) → x ≤ seen → v < meet seen x → (v < seen) ⊎ (v ≡ x)

@@ -7,8 +7,9 @@ use mathlib.Core.Logic.{_⊎_, inl, inr, ⊎-elim}
 use mathlib.Core.List.{List, [], _∷_, map, List·Memᴰ, List·Memᴰ·head, List·Memᴰ·tail, List·Memᴰ·cases-cons, List·Memᴰ·append-cases, List·Memᴰ·not-nil}
 use lib.ListN.{length, take, length-append, length-map}
 use Rattle.terms.specs.Term.{Term, Terms, sameTerm, var, app, nil, cons, Occ, Occs}
-use Rattle.terms.specs.Cells.{variables, Keeps, Keepss, Atom}
+use Rattle.terms.specs.Cells.{variables, Atom}
 use Rattle.terms.proofs.Substs.{occ-sub}
+use Rattle.terms.proofs.Binding.{atom-variables}
 use Rattle.program.specs.Limits.{maxBody}
 use Rattle.program.specs.Program.{Nth, Clause, Program, bodies}
 use Rattle.program.specs.Shapes.{with, met, mets, number, shapeOf, distinct, shapes, In}
@@ -23,21 +24,7 @@ use Rattle.table.proofs.Distinct.{distinct-length}
 pub each-member : {A : Type 0} {P : A → Type 0} {l : List A} {a : A} → Each P l → List·Memᴰ a l → P a
 each-member {P = P} {a = a} (more h hs) m = ⊎-elim (λ (e : _). rw e h) (each-member hs) (List·Memᴰ·cases-cons m)
 
--- "v is at most 15", in terms and atoms
-mutual
-  pub keeps-variables : (fs : List ℕ) (t : Term) → Keeps fs t → (v : ℕ) → Occ v t → v < variables
-  keeps-variables fs (var x) k v o = rw o k
-  keeps-variables fs (app f ts) k v o = keepss-variables fs ts (k .3) v o
-
-  pub keepss-variables : (fs : List ℕ) (ts : Terms) → Keepss fs ts → (v : ℕ) → Occs v ts → v < variables
-  keepss-variables fs nil k v o = absurd o
-  keepss-variables fs (cons t ts) k v (inl o) = keeps-variables fs t (k .0) v o
-  keepss-variables fs (cons t ts) k v (inr o) = keepss-variables fs ts (k .1) v o
-
-pub atom-variables : {ps fs : List ℕ} {t : Term} → Atom ps fs t → (v : ℕ) → Occ v t → v < variables
-atom-variables {fs = fs} a v o = keepss-variables fs (a .arguments) (a .keeps) v (rw (a .is) at o)
-
--- and in the atoms of a clause
+-- "v is at most 15", in the atoms of a clause
 pub atoms-variables : {ps fs : List ℕ} (ts : List Term) → Each (Atom ps fs) ts → (v : ℕ) → In v ts → v < variables
 atoms-variables (t ∷ ts) (more a as′) v (inl o) = atom-variables a v o
 atoms-variables (t ∷ ts) (more a as′) v (inr o) = atoms-variables ts as′ v o

@@ -10,7 +10,7 @@ use lib.ListN.{length, getD, set, length-append, List·getD-append}
 use lib.Seq.{getD-set-same, getD-set-other, getD-append-add}
 use borrow.Author.Tests.{lt-ltb, le-ltb}
 use Rattle.terms.specs.Term.{Term, Terms, var, app, nil, cons, Subst, sub, Occ, Occs}
-use Rattle.terms.specs.Cells.{enc, encs, Keeps, Keepss, variables}
+use Rattle.terms.specs.Cells.{enc, encs, Keeps, Keepss, variables, Atom}
 use Rattle.terms.specs.Mask.{Has}
 use Rattle.terms.specs.Walk.{InRun, Cells}
 use Rattle.terms.specs.Store.{noPlace, termsAt, firstTerm, bound}
@@ -79,6 +79,7 @@ gained-right F sets base t σ u small k below right is z = (
       is z .1 (q .0, in-run-occ F (q .0) t k .1 (q .1), right (base + q .0) z (omega (arith, below (q .0) (q .1))) .1 (q .2))),
 )
 
+-- "v is at most 15", in terms and atoms
 mutual
   pub keeps-below : (F : List ℕ) (t : Term) → Keeps F t → (v : ℕ) → Occ v t → v < variables
   keeps-below F (var w) k v o = rw o k
@@ -88,6 +89,9 @@ mutual
   keepss-below F nil k v o = absurd o
   keepss-below F (cons t ts) k v (inl o) = keeps-below F t (k .0) v o
   keepss-below F (cons t ts) k v (inr o) = keepss-below F ts (k .1) v o
+
+pub atom-variables : {P F : List ℕ} {A : Term} → Atom P F A → (v : ℕ) → Occ v A → v < variables
+atom-variables {F = F} a v o = keepss-below F (a .arguments) (a .keeps) v (rw (a .is) at o)
 
 -- a variable's term, after x is bound to v
 pub occ-bind : (x z : ℕ) (v w : Term) → Occ z (sub w (bind x v)) ↔ ((Occ z w × (z ≡ x → ⊥)) ⊎ (Occ x w × Occ z v))
