@@ -10,14 +10,14 @@ use Rattle.terms.specs.Mask.{Marks}
 use Rattle.terms.proofs.Masks.{marks-for}
 use Rattle.marks.specs.Modes.{modes}
 use Rattle.program.specs.Program.{Nth, Clause, Program}
+use Rattle.program.proofs.Nths.{nth-below, below-nth}
 use Rattle.directory.specs.Layout.{clauseHead, clauseFirst, clauseVars, dirWords}
 use Rattle.directory.specs.Directory.{predicateOf, ClauseAt}
-use Rattle.rows.specs.Rows.{slots, keysOf}
+use Rattle.rows.specs.Rows.{keysOf}
 use Rattle.table.specs.Keys.{bodyIndex}
 use Rattle.table.specs.Added.{Below}
 use Rattle.table.specs.NewRows.{NewGoesOn, NewIn, NewGives}
 use Rattle.table.specs.RoundKeys.{Keyed}
-use Rattle.table.proofs.Lists.{nth-below, below-nth}
 use Rattle.table.proofs.Looking.{by-places, by-clauses}
 use Rattle.steps.specs.Steps.{RowsIn, Writable, Grew, Stepped}
 use Rattle.steps.specs.Situation.{Situation, BodyOf, FirstAsked, HeadAsked, LastAsked}

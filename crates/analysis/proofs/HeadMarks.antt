@@ -17,6 +17,7 @@ use Rattle.marks.specs.Modes.{modes, Kept}
 use Rattle.marks.proofs.Modes.{keptOf, keptOf-kept}
 use Rattle.program.specs.Program.{Clause, Program}
 use Rattle.program.proofs.ShapeLaws.{nth-same}
+use Rattle.program.proofs.Nths.{nth-below}
 use Rattle.directory.specs.Directory.{predicateOf}
 use Rattle.rows.specs.Rows.{masks, slotAt, maskAt, keysOf}
 use Rattle.rows.specs.MaskSet.{setWords, InSet}
@@ -26,7 +27,6 @@ use Rattle.table.specs.Rules.{Row, call, Reached, first, next}
 use Rattle.table.specs.Steps.{opens, makes, EndsIn, ends-in, on-head}
 use Rattle.table.specs.NewRows.{New, NewReached, new-on-head, NewEnds}
 use Rattle.table.specs.RoundKeys.{Keyed}
-use Rattle.table.proofs.Lists.{nth-below}
 use Rattle.table.proofs.NewRows.{new-reached}
 use Rattle.steps.specs.Steps.{RowsIn}
 use Rattle.steps.specs.Situation.{HeadAsked}

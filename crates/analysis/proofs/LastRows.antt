@@ -3,14 +3,15 @@ use Prim.Native.Nat.{ℕ, zero, suc, _+_, _*_, _≤_, _<_}
 use native.Mathlib.Omega.{arith}
 use native.Mathlib.Decide.{decLe, ℕ-discrete}
 use mathlib.Core.Path.{_≡_, refl, sym, ap, subst, _∙_}
-use mathlib.Core.Logic.{_⊎_, inl, inr, ⊎-elim, _↔_}
+use mathlib.Core.Logic.{_⊎_, inl, inr}
 use mathlib.Core.List.{List, [], _∷_, _++_, List·Memᴰ, List·Memᴰ·head, List·Memᴰ·eq-of-singleton, List·Memᴰ·append-cases, List·Memᴰ·not-nil, Memᴰ·append-left, Memᴰ·append-right}
 use lib.ListN.{length, getD, length-append}
 use Rattle.marks.specs.Modes.{modes}
 use Rattle.program.specs.Program.{Nth, here, Program}
 use Rattle.program.proofs.ShapeLaws.{nth-same}
 use Rattle.program.proofs.ProgramWords.{sound-within}
-use Rattle.rows.specs.Rows.{rowSize, masks, roundAt, slotAt, maskAt, keyAt, keysOf}
+use Rattle.program.proofs.Nths.{nth-below, nth-left, nth-right}
+use Rattle.rows.specs.Rows.{rowSize, roundAt, slotAt, maskAt, keyAt}
 use Rattle.rows.specs.Ordered.{orderAt, Sorted}
 use Rattle.rows.proofs.Keys.{key-slot, key-mask, key-listed, listed-key}
 use Rattle.rows.proofs.Sorting.{key-before, reordered-keys, reordered-distinct, ascending-strictly}
@@ -19,7 +20,6 @@ use Rattle.table.specs.Rounds.{At, First}
 use Rattle.table.specs.Table.{Entry, entryWords, Ascending, Before, TableOf, mask}
 use Rattle.table.specs.Keys.{keyOf, rowOf, slotOf, Few, Regular}
 use Rattle.table.specs.RoundKeys.{Rounded}
-use Rattle.table.proofs.Lists.{nth-below, nth-left, nth-right}
 use Rattle.table.proofs.RoundLaws.{rounds-grow, first-once}
 use Rattle.table.proofs.ShapeVariables.{within-few}
 use Rattle.table.proofs.Regular.{at-regular}

@@ -1,20 +1,20 @@
 -- The middle places of a clause, one after the other: past each, the rows for the next body atom are there.
-use Prim.Native.Nat.{ℕ, zero, suc, _+_, _-_, _≤_, _<_}
+use Prim.Native.Nat.{ℕ, suc, _+_, _-_, _≤_, _<_}
 use native.Mathlib.Omega.{arith}
 use native.Mathlib.Decide.{ℕ-discrete}
-use mathlib.Core.Path.{_≡_, refl, subst}
+use mathlib.Core.Path.{_≡_, subst}
 use mathlib.Core.Logic.{_⊎_, inl, inr}
-use mathlib.Core.List.{List, List·Memᴰ}
+use mathlib.Core.List.{List}
 use lib.ListN.{length}
 use Rattle.marks.specs.Modes.{modes}
 use Rattle.terms.specs.Term.{Term}
 use Rattle.program.specs.Program.{Nth, Program}
+use Rattle.program.proofs.Nths.{below-nth}
 use Rattle.rows.specs.Rows.{keysOf}
 use Rattle.table.specs.Keys.{bodyIndex}
 use Rattle.table.specs.Added.{Below}
 use Rattle.table.specs.NewRows.{NewGoesOn}
 use Rattle.table.specs.RoundKeys.{Keyed}
-use Rattle.table.proofs.Lists.{below-nth}
 use Rattle.steps.specs.Steps.{RowsIn, Writable, Grew, Stepped}
 use Rattle.steps.specs.Situation.{Situation, BodyOf, MiddleAsked}
 use Rattle.analysis.specs.Clauses.{MiddlesAsked, PastPlaces}

@@ -1,26 +1,24 @@
 -- Rows unpacked: the clause of a body atom, a row's words from its slot, and the rows passed as entries.
 use Prim.Native.Nat.{ℕ, zero, suc, _+_, _-_, _*_, _≤_, _<_}
 use native.Mathlib.Omega.{arith}
-use native.Mathlib.Decide.{decLe, decLt}
-use native.Mathlib.Nat.{le-trans}
-use mathlib.Core.Path.{_≡_, refl, sym, ap, subst, _∙_}
+use native.Mathlib.Decide.{decLt}
+use mathlib.Core.Path.{_≡_, refl, sym, ap, _∙_}
 use mathlib.Core.List.{List, [], _∷_, _++_, append-assoc, append-nil}
 use lib.ListN.{length, getD, set, take, drop}
 use lib.Seq.{length-take-le, take-length, drop-cons, getD-append-add, getD-drop}
 use Rattle.terms.specs.Term.{Term}
-use Rattle.program.specs.Program.{Nth, here, there, Clause, Program, bodies}
+use Rattle.program.specs.Program.{Nth, here, there, Clause, Program}
 use Rattle.program.specs.Shapes.{shapes}
+use Rattle.program.proofs.Nths.{nth-below, below-nth}
 use Rattle.directory.specs.Layout.{clauseFirst, dirWords}
-use Rattle.directory.proofs.Cuts.{nth-within}
-use Rattle.rows.specs.Rows.{rowSize, roundAt, slotAt, maskAt}
+use Rattle.rows.specs.Rows.{rowSize, slotAt, maskAt}
 use Rattle.table.specs.Rules.{Row, call, cont, solution}
 use Rattle.table.specs.Table.{Entry, rowWords, entryWords, tableWords, mask}
 use Rattle.table.specs.Keys.{bodyIndex, Regular, regular-call, regular-cont, regular-solution, slotOf}
-use Rattle.table.proofs.Lists.{below-nth, nth-below}
 use Rattle.table.proofs.Keys.{index-below}
 use Rattle.table.proofs.Entries.{table-words-length, table-words-append}
 use Rattle.steps.specs.Situation.{Setting, BodyOf}
-use Rattle.analysis.specs.Unpacked.{withWords, withRow, Stands, Packed, Belongs}
+use Rattle.analysis.specs.Unpacked.{withWords, withRow, Stands, Packed}
 use Rattle.steps.proofs.Meetings.{setting-within}
 use Rattle.steps.proofs.Bodies.{first-body}
 
@@ -37,7 +35,7 @@ module _ {words dir : List ℕ} {p : Program} (s : Setting words dir p) where
 
   module _ (j : ℕ) (b : BodyOf p j) where
     body-first : j ≡ getD dir (clauseFirst + b .k) 0 + b .i
-    body-first = b .is ∙ ap (λ (x : ℕ). x + b .i) (sym (first-body s (b .k) (let l = nth-within (b .nth-clause) in omega arith)))
+    body-first = b .is ∙ ap (λ (x : ℕ). x + b .i) (sym (first-body s (b .k) (let l = nth-below (b .nth-clause) in omega arith)))
 
     -- a clause that ends before the body atom is one before its clause
     pub clause-later : (k : ℕ) → k ≤ b .k → getD dir (clauseFirst + k + 1) 0 ≤ j → k + 1 ≤ b .k

@@ -12,9 +12,9 @@ use Rattle.marks.specs.Pass.{Pass}
 use Rattle.marks.specs.Passing.{MarkedIn}
 use Rattle.marks.proofs.PassedOn.{first-to-second}
 use Rattle.program.specs.Program.{Program}
+use Rattle.program.proofs.Nths.{nth-below}
 use Rattle.rows.specs.Rows.{rowSize, slotAt, maskAt, beforeAt, keysOf}
 use Rattle.rows.specs.Chains.{Latest}
-use Rattle.directory.proofs.Cuts.{nth-within}
 use Rattle.table.specs.Rules.{call, Reached, first}
 use Rattle.table.specs.Steps.{Opens}
 use Rattle.table.specs.NewRows.{New}
@@ -55,7 +55,7 @@ module _ {p : Program} {table sets : List ℕ} {newest here there since rows k :
   s = a .s
 
   slot-small : s < firstCont
-  slot-small = omega (arith, nth-within (a .nth-shape), a .few .shapes-few)
+  slot-small = omega (arith, nth-below (a .nth-shape), a .few .shapes-few)
 
   -- the newest row of the slot, and from each row the one before it
   pub calls-newest : Latest (slotAt table) s rows newest

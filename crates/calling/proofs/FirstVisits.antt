@@ -12,10 +12,10 @@ use Rattle.marks.specs.Passing.{VariablesOf}
 use Rattle.program.specs.Program.{Nth, Program}
 use Rattle.program.specs.Shapes.{shapes, number}
 use Rattle.program.specs.Faults.{faults, sound}
+use Rattle.program.proofs.Nths.{nth-below}
 use Rattle.rows.specs.Rows.{keysOf}
 use Rattle.directory.specs.Layout.{clauseHead, clauseCells, clauseVars, bodyStart, bodyCells, shapeNext, predicateShape, maxBodies, dirWords}
 use Rattle.directory.specs.Directory.{Stands-at, ClauseAt, BodyAt, Link, predicateOf}
-use Rattle.directory.proofs.Cuts.{nth-within}
 use Rattle.table.specs.Rules.{call}
 use Rattle.table.specs.NewRows.{NewGoesOn}
 use Rattle.table.specs.RoundKeys.{Keyed}
@@ -68,7 +68,7 @@ module _ {words dir table heads : List ℕ} {since rows k j : ℕ} (w : Situatio
   pub first-in-dir : (k < 64) × (j < maxBodies) × (length dir ≡ dirWords) × (length words ≤ 2048)
   first-in-dir =
       let d = w .setting .directory in (
-        omega (arith, nth-within (b .nth-clause), setting-within (w .setting) .clauses-most),
+        omega (arith, nth-below (b .nth-clause), setting-within (w .setting) .clauses-most),
         rw (b .is) (body-few (w .setting) (b .nth-clause) (b .nth-atom)),
         d .size,
         d .words-most,

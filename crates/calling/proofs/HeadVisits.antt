@@ -15,10 +15,10 @@ use Rattle.marks.proofs.Passing.{pass-within}
 use Rattle.program.specs.Program.{Nth, Clause, Program}
 use Rattle.program.specs.Shapes.{shapes}
 use Rattle.program.proofs.ShapeLaws.{nth-same}
+use Rattle.program.proofs.Nths.{nth-below}
 use Rattle.rows.specs.MaskSet.{setWords}
 use Rattle.directory.specs.Layout.{clauseHead, clauseCells, clauseVars, shapeNext, predicateShape, dirWords}
 use Rattle.directory.specs.Directory.{Stands-at, ClauseAt, Link, predicateOf}
-use Rattle.directory.proofs.Cuts.{nth-within}
 use Rattle.table.specs.Steps.{opens}
 use Rattle.steps.specs.Situation.{Situation, ClauseOf, HeadAsked}
 use Rattle.steps.specs.Heads.{ReachedSince, HeadMark, Marked}
@@ -70,7 +70,7 @@ module _ {words dir table heads : List ℕ} {since rows k : ℕ} (w : Situation 
   pub head-in-dir : (k < 64) × (length dir ≡ dirWords) × (length words ≤ 2048)
   head-in-dir =
       let d = w .setting .directory in
-      (omega (arith, nth-within (b .nth-clause), setting-within (w .setting) .clauses-most), d .size, d .words-most)
+      (omega (arith, nth-below (b .nth-clause), setting-within (w .setting) .clauses-most), d .size, d .words-most)
 
   module _ (found : List ℕ) (start cells there : ℕ) where
     -- the shapes below a number are done, and the link leads to the next

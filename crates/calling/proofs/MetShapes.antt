@@ -9,9 +9,9 @@ use Rattle.terms.specs.Unifier.{Apart}
 use Rattle.terms.proofs.Masks.{marks-for}
 use Rattle.program.specs.Program.{Program}
 use Rattle.program.specs.Shapes.{shapes}
+use Rattle.program.proofs.Nths.{nth-below}
 use Rattle.directory.specs.Layout.{shapeVars, maxShapes, dirWords}
 use Rattle.directory.specs.Directory.{ShapeAt}
-use Rattle.directory.proofs.Cuts.{nth-within}
 use Rattle.table.proofs.ShapeVariables.{within-few}
 use Rattle.table.proofs.Steps.{opens-apart}
 use Rattle.steps.specs.Situation.{Meeting, Unifying}
@@ -28,7 +28,7 @@ module _ {words dir table heads : List ℕ} {p : Program} {since rows k s start 
   shape-entry = a .setting .directory .shape (a .nth-shape)
 
   pub shape-in-dir : (s < maxShapes) × (length dir ≡ dirWords)
-  shape-in-dir = let d = a .setting .directory in (omega (arith, nth-within (a .nth-shape), d .shape-count, d .shapes-most), d .size)
+  shape-in-dir = let d = a .setting .directory in (omega (arith, nth-below (a .nth-shape), d .shape-count, d .shapes-most), d .size)
 
   pub shape-slot : s < length heads
   shape-slot = rw (a .chains .all-heads) (let l = shape-in-dir .0 in omega arith)

@@ -14,10 +14,10 @@ use Rattle.marks.specs.Modes.{modes}
 use Rattle.program.specs.Program.{Nth, Clause, Program}
 use Rattle.program.specs.Shapes.{shapes}
 use Rattle.program.proofs.ShapeLaws.{nth-same}
+use Rattle.program.proofs.Nths.{nth-below}
 use Rattle.rows.specs.Rows.{keysOf}
 use Rattle.directory.specs.Layout.{clauseHead, shapeNext, predicateShape, maxShapes}
 use Rattle.directory.specs.Directory.{Stands-at, Link, predicateOf}
-use Rattle.directory.proofs.Cuts.{nth-within}
 use Rattle.table.specs.Steps.{opens}
 use Rattle.table.specs.NewRows.{NewReached}
 use Rattle.steps.specs.Steps.{RowsIn}
@@ -81,7 +81,7 @@ module _ {words dir : List ℕ} {p : Program} (setting : Setting words dir p) {k
 
   module _ {from link : ℕ} (l : Link (shapes p) predicate from link) (some : 0 < link) where
     pub link-few : link ≤ maxShapes
-    link-few = let d = setting .directory in let (f, S, h, e) = l .named some in omega (arith, nth-within h, d .shape-count, d .shapes-most)
+    link-few = let d = setting .directory in let (f, S, h, e) = l .named some in omega (arith, nth-below h, d .shape-count, d .shapes-most)
 
     pub next-link : Link (shapes p) predicate link (getD dir (shapeNext + (link - 1)) 0)
     next-link =

@@ -9,8 +9,9 @@ use lib.ListN.{length, take, drop, length-append, take-append-drop}
 use lib.Seq.{take-length}
 use Rattle.terms.specs.Term.{Term}
 use Rattle.program.specs.Program.{Nth, here, there, Clause, Program, bodies}
+use Rattle.program.proofs.Nths.{nth-left, nth-right, nth-append, nth-below}
 use Rattle.directory.specs.Lists.{firstOf}
-use Rattle.directory.proofs.Cuts.{nth-drop, nth-left, nth-right, nth-append, nth-within}
+use Rattle.directory.proofs.Cuts.{nth-drop}
 use Rattle.directory.proofs.ClausesWalk.{bodies-append, bodies-next}
 
 pub first-next : (p : Program) {k : ℕ} {c : Clause} → Nth (p .clauses) k c → firstOf p (k + 1) ≡ firstOf p k + length (c .body)
@@ -51,7 +52,7 @@ first-within p k h =
 -- each number is that of a place of a clause
 pub each-number : (cs : List Clause) (j : ℕ) {A : Term} → Nth (bodies cs) j A
     → (k : ℕ) × (i : ℕ) × (c : Clause) × Nth cs k c × Nth (c .body) i A × (j ≡ length (bodies (take k cs)) + i)
-each-number [] j q = let l = nth-within q in absurd (omega arith)
+each-number [] j q = let l = nth-below q in absurd (omega arith)
 each-number (c ∷ cs) j {A} q = by (λ y h. each-number cs y h) (nth-append (c .body) (bodies cs) q)
   where
     by : ((y : ℕ) → Nth (bodies cs) y A → (k : ℕ) × (i : ℕ) × (d : Clause) × Nth cs k d × Nth (d .body) i A × (y ≡ length (bodies (take k cs)) + i))

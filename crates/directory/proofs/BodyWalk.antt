@@ -12,10 +12,11 @@ use Rattle.terms.specs.Cells.{enc}
 use Rattle.program.specs.Program.{Nth}
 use Rattle.program.specs.Within.{encodeAtoms}
 use Rattle.program.proofs.ShapeLaws.{nth-same}
+use Rattle.program.proofs.Nths.{below-nth}
 use Rattle.directory.specs.Layout.{bodyStart, bodyCells, dirWords, maxBodies}
 use Rattle.directory.specs.Walked.{Atoms-written, Body-in}
 use Rattle.directory.specs.From.{Atom-from, Atoms-from}
-use Rattle.directory.proofs.Cuts.{cut-behind, nth-at, nth-drop, each-nth}
+use Rattle.directory.proofs.Cuts.{cut-behind, nth-drop, each-nth}
 use Rattle.directory.proofs.AtomsFrom.{atom-stands, atom-ends}
 
 module _ (words : List ℕ) (from : ℕ) (predicates functions : List ℕ) (m : ℕ) (a : Atoms-from words from predicates functions m) (before : List ℕ) (j : ℕ) where
@@ -27,7 +28,7 @@ module _ (words : List ℕ) (from : ℕ) (predicates functions : List ℕ) (m : 
   module _ (dir : List ℕ) (i at : ℕ) (w : Atoms-written words (a .atoms) (a .rest) before dir j i at) (less : i < m) where
     -- the atom that comes next
     abbrev nextOf : (A : Term) × Nth (a .atoms) i A
-    nextOf = nth-at (a .atoms) i (let e = a .many in omega arith)
+    nextOf = below-nth (a .atoms) i (let e = a .many in omega arith)
 
     abbrev pub next-atom : Atom-from words at predicates functions
     next-atom =

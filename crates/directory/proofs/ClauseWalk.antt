@@ -10,11 +10,12 @@ use Rattle.terms.specs.Walk.{Cells}
 use Rattle.program.specs.Limits.{maxDeclared, maxBody}
 use Rattle.program.specs.Shapes.{met}
 use Rattle.program.specs.Within.{encodeAtoms}
+use Rattle.program.proofs.Nths.{nth-below}
 use Rattle.directory.specs.Layout.{clauseHead, clauseCells, clauseFirst, clauseVars, bodyStart, bodyCells, dirWords, maxBodies}
 use Rattle.directory.specs.Numbers.{metCells}
 use Rattle.directory.specs.Walked.{Atoms-written, Clause-written, Head-in}
 use Rattle.directory.specs.From.{Atom-from, Atoms-from, Clause-from}
-use Rattle.directory.proofs.Cuts.{middle-part, cut-part, cut-behind, word-within, word-at, word-behind, nth-within}
+use Rattle.directory.proofs.Cuts.{middle-part, cut-part, cut-behind, word-within, word-at, word-behind}
 use Rattle.directory.proofs.AtomsFrom.{atom-stands, atom-ends}
 use Rattle.directory.proofs.TermCells.{atom-met, atom-all-cells}
 use Rattle.directory.proofs.ShapeVariables.{met-few, numbered-variables}
@@ -126,7 +127,7 @@ module _ (words : List ℕ) (from : ℕ) (predicates functions : List ℕ) (a : 
           within = w .within;
           head = head-in;
           first-next = w .kept (clauseFirst + (k + 1)) (omega arith) ∙ headed-first ∙ ap (λ (n : ℕ). j + n) many;
-          written = λ q. w .written q (let l = nth-within q in omega arith);
+          written = λ q. w .written q (let l = nth-below q in omega arith);
           heads-kept = λ x l. w .kept (clauseHead + x) (omega arith) ∙ others-kept (clauseHead + x) (λ q. omega arith) (λ q. omega arith) (λ q. omega arith) (λ q. omega arith);
           cells-kept = λ x l. w .kept (clauseCells + x) (omega arith) ∙ others-kept (clauseCells + x) (λ q. omega arith) (λ q. omega arith) (λ q. omega arith) (λ q. omega arith);
           variables-kept = λ x l. w .kept (clauseVars + x) (omega arith) ∙ others-kept (clauseVars + x) (λ q. omega arith) (λ q. omega arith) (λ q. omega arith) (λ q. omega arith);

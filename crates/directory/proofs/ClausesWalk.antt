@@ -14,10 +14,11 @@ use Rattle.terms.specs.Cells.{enc}
 use Rattle.program.specs.Program.{Nth, Clause, bodies}
 use Rattle.program.specs.Within.{Each, more, encodeAtoms, encodeClauses, WithinClause}
 use Rattle.program.proofs.ShapeLaws.{nth-same}
+use Rattle.program.proofs.Nths.{below-nth, nth-append, nth-below}
 use Rattle.directory.specs.Layout.{clauseFirst, dirWords, maxBodies}
 use Rattle.directory.specs.Walked.{Clause-written, Clauses-written, Head-in, Body-in}
 use Rattle.directory.specs.From.{Clause-from, Clauses-from}
-use Rattle.directory.proofs.Cuts.{nth-at, nth-drop, nth-take, nth-append, nth-within, each-nth}
+use Rattle.directory.proofs.Cuts.{nth-drop, nth-take, each-nth}
 
 pub bodies-append : (l m : List Clause) → bodies (l ++ m) ≡ bodies l ++ bodies m
 bodies-append [] m = refl
@@ -46,13 +47,13 @@ module _ (words : List ℕ) (from : ℕ) (predicates functions : List ℕ) (n : 
         within = h;
         heads = λ q l. absurd (omega arith);
         firsts = λ x l. let z : x ≡ 0 = omega arith in rw z e;
-        written = λ q. let l = nth-within q in absurd (omega arith);
+        written = λ q. let l = nth-below q in absurd (omega arith);
         kept = λ x l. refl;
       }
 
   module _ (dir : List ℕ) (k at : ℕ) (w : Clauses-written words (a .clauses) (a .rest) before dir k at) (less : k < n) where
     abbrev nextOf : (c : Clause) × Nth (a .clauses) k c
-    nextOf = nth-at (a .clauses) k (let e = a .many in omega arith)
+    nextOf = below-nth (a .clauses) k (let e = a .many in omega arith)
 
     abbrev c : Clause
     c = nextOf .0
@@ -98,7 +99,7 @@ module _ (words : List ℕ) (from : ℕ) (predicates functions : List ℕ) (n : 
       written-by : {x : ℕ} {A : Term} → Nth (bodies (take k (a .clauses))) x A ⊎ ((y : ℕ) × (x ≡ length (bodies (take k (a .clauses))) + y) × Nth (c .body) y A)
           → Body-in words dir′ A x
       written-by {x} (inl q) =
-          let l = nth-within q in
+          let l = nth-below q in
           let e = w .firsts k (omega arith) in
           rw (one .starts-kept x (omega arith), one .body-cells-kept x (omega arith)) (w .written q)
       written-by (inr (y, e, q)) = rw (e, ← w .firsts k (omega arith)) (one .written q)

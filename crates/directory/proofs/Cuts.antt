@@ -1,13 +1,15 @@
 -- Where the words are cut: a place before a part, the place behind it, and the part itself.
-use Prim.Native.Nat.{ℕ, zero, suc, _+_, _-_, _≤_, _<_}
+use Prim.Native.Nat.{ℕ, suc, _+_, _-_, _≤_, _<_}
 use native.Mathlib.Omega.{arith}
 use mathlib.Core.Path.{_≡_, refl, sym, ap, _∙_}
-use mathlib.Core.Logic.{_⊎_, inl, inr}
 use mathlib.Core.List.{List, [], _∷_, _++_}
 use lib.ListN.{length, getD, take, drop, length-append, length-drop}
 use lib.Seq.{take-all, drop-drop, drop-at, take-at, getD-drop}
 use Rattle.program.specs.Program.{Nth, here, there}
 use Rattle.program.specs.Within.{Each, more}
+
+-- what crates above cite under these names
+pub use Rattle.program.proofs.Nths.{nth-below as nth-within, below-nth as nth-at}
 
 -- the words from a place on, as `&words[at..]` has them
 pub tail-part : (words : List ℕ) (at : ℕ) → take (length words - at) (drop at words) ≡ drop at words
@@ -41,15 +43,6 @@ module _ (words : List ℕ) (at w : ℕ) (rest : List ℕ) (cut : drop at words 
   word-behind = sym (drop-drop 1 at words) ∙ ap (drop 1) cut
 
 -- what stands at a place of a list, and the list from there on
-pub nth-within : {A : Type 0} {l : List A} {n : ℕ} {a : A} → Nth l n a → n < length l
-nth-within here = omega arith
-nth-within (there h) = let l = nth-within h in omega arith
-
-pub nth-at : {A : Type 0} (l : List A) (n : ℕ) → n < length l → (a : A) × Nth l n a
-nth-at [] n h = absurd (omega arith)
-nth-at (a ∷ l) zero h = (a, here)
-nth-at (a ∷ l) (suc n) h = let (b, q) = nth-at l n (omega arith) in (b, there q)
-
 pub nth-drop : {A : Type 0} {l : List A} {n : ℕ} {a : A} → Nth l n a → drop n l ≡ a ∷ drop (suc n) l
 nth-drop here = refl
 nth-drop (there h) = nth-drop h
@@ -61,21 +54,3 @@ nth-take {l = b ∷ l} (there h) = ap (_∷_ b) (nth-take h)
 pub each-nth : {A : Type 0} {P : A → Type 0} {l : List A} {n : ℕ} {a : A} → Each P l → Nth l n a → P a
 each-nth (more p ps) here = p
 each-nth (more p ps) (there h) = each-nth ps h
-
--- what stands in two lists one after the other stands in the first or in the second
-pub nth-append : {A : Type 0} (l m : List A) {n : ℕ} {a : A} → Nth (l ++ m) n a → Nth l n a ⊎ ((y : ℕ) × (n ≡ length l + y) × Nth m y a)
-nth-append [] m {n} h = inr (n, omega arith, h)
-nth-append (b ∷ l) m here = inl here
-nth-append {A} (b ∷ l) m {a = a} (there {n = k} h) = by (nth-append l m h)
-  where
-    by : Nth l k a ⊎ ((y : ℕ) × (k ≡ length l + y) × Nth m y a) → Nth (b ∷ l) (suc k) a ⊎ ((y : ℕ) × (suc k ≡ suc (length l) + y) × Nth m y a)
-    by (inl q) = inl (there q)
-    by (inr (y, e, q)) = inr (y, omega arith, q)
-
-pub nth-left : {A : Type 0} {l : List A} (m : List A) {n : ℕ} {a : A} → Nth l n a → Nth (l ++ m) n a
-nth-left m here = here
-nth-left m (there h) = there (nth-left m h)
-
-pub nth-right : {A : Type 0} (l : List A) {m : List A} {n : ℕ} {a : A} → Nth m n a → Nth (l ++ m) (length l + n) a
-nth-right [] {n = n} h = let e : n ≡ 0 + n = omega arith in rw (← e) h
-nth-right (b ∷ l) {n = n} h = let e : suc (length l + n) ≡ suc (length l) + n = omega arith in rw (← e) (there (nth-right l h))

@@ -16,9 +16,10 @@ use Rattle.program.specs.Shapes.{with, shapeOf, distinct, shapes}
 use Rattle.program.proofs.ProgramWords.{sound-within}
 use Rattle.program.proofs.ShapeLaws.{body-shape, goal-shape}
 use Rattle.program.proofs.GoalShape.{goal-own-shape}
+use Rattle.program.proofs.Nths.{below-nth, nth-below}
 use Rattle.directory.specs.Layout.{clauseCount, clauseFirst, bodyShape, shapeCount}
 use Rattle.directory.specs.Directory.{Stands-at, Directory, predicateOf}
-use Rattle.directory.proofs.Cuts.{middle-part, nth-at, nth-within, each-nth}
+use Rattle.directory.proofs.Cuts.{middle-part, each-nth}
 use Rattle.directory.proofs.Parts.{part-length, part-at}
 use Rattle.directory.proofs.PlacedLaws.{bodies-atoms}
 use Rattle.directory.proofs.TermCells.{atom-all-cells, atom-in-run}
@@ -102,14 +103,14 @@ module _ (words : List ℕ) (p : Program) (e : faults words ≡ sound p) where
 
     pub body-shape-below : {k i : ℕ} {c : Clause} {A : Term} → Nth (p .clauses) k c → Nth (c .body) i A
         → getD dir (bodyShape + (getD dir (clauseFirst + k) 0 + i)) 0 < getD dir shapeCount 0
-    body-shape-below q h = rw (d .shape-count) (nth-within (body-shape-at q h))
+    body-shape-below q h = rw (d .shape-count) (nth-below (body-shape-at q h))
 
     -- "Shape 0 is the goal's", and the goal is its own shape
     pub goal-shape-at : Nth (shapes p) 0 (p .goal)
     goal-shape-at = subst (λ (t : Term). Nth (shapes p) 0 t) (goal-own-shape words p e) (goal-shape p)
 
     pub some-shapes : 0 < getD dir shapeCount 0
-    some-shapes = rw (d .shape-count) (nth-within goal-shape-at)
+    some-shapes = rw (d .shape-count) (nth-below goal-shape-at)
 
     -- every shape is that of the goal or of a body atom, and so within the limits
     pub shape-sound : {s : ℕ} {S : Term} → Nth (shapes p) s S → Atom (p .predicates) (p .functions) S
@@ -122,11 +123,11 @@ module _ (words : List ℕ) (p : Program) (e : faults words ≡ sound p) where
 
     -- a number below the count is a shape's
     pub shape-under : (s : ℕ) → s < getD dir shapeCount 0 → (S : Term) × Nth (shapes p) s S
-    shape-under s h = nth-at (shapes p) s (rw (d .shape-count) at h)
+    shape-under s h = below-nth (shapes p) s (rw (d .shape-count) at h)
 
     -- a number below the count is a clause's
     pub clause-under : (k : ℕ) → k < getD dir clauseCount 0 → (c : Clause) × Nth (p .clauses) k c
-    clause-under k h = nth-at (p .clauses) k (rw (d .clause-count) at h)
+    clause-under k h = below-nth (p .clauses) k (rw (d .clause-count) at h)
 
     -- the place of a body atom in its clause, from its number on
     pub place-below : {k : ℕ} {c : Clause} → Nth (p .clauses) k c → (j : ℕ) → getD dir (clauseFirst + k) 0 ≤ j → j < getD dir (clauseFirst + suc k) 0

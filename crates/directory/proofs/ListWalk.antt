@@ -15,11 +15,12 @@ use Rattle.terms.proofs.Masks.{has-and, marks-or, marks-for}
 use Rattle.program.specs.Program.{Nth, Clause, Program, bodies}
 use Rattle.program.specs.Shapes.{In, Listed}
 use Rattle.program.proofs.ShapeLaws.{nth-same}
+use Rattle.program.proofs.Nths.{below-nth, nth-below}
 use Rattle.directory.specs.Layout.{bodyList}
 use Rattle.directory.specs.Said.{said, Accepted}
 use Rattle.directory.specs.Walked.{Placed}
 use Rattle.directory.specs.Lists.{firstOf, Later, Listed-from, Lists}
-use Rattle.directory.proofs.Cuts.{nth-at, nth-drop, nth-take, nth-within}
+use Rattle.directory.proofs.Cuts.{nth-drop, nth-take}
 use Rattle.directory.proofs.PlacedLaws.{placed-kept}
 use Rattle.directory.proofs.BodyNumbers.{body-number, number-before}
 
@@ -110,7 +111,7 @@ module _ (p : Program) (k : ℕ) (c : Clause) (before : List ℕ) where
     -- both before the place and from it on
     both : Marks (Listed c i) (bitAnd (getD dir place 0) m)
     both v =
-        let l = w .rest .later i (omega arith) (nth-within q) v in
+        let l = w .rest .later i (omega arith) (nth-below q) v in
         let a = has-and (getD dir place 0) m v in
         (λ b. (h v .0 (a .0 b .1), l .0 (a .0 b .0)), λ o. a .1 (l .1 (o .1), h v .1 (o .0)))
 
@@ -135,12 +136,12 @@ module _ (p : Program) (k : ℕ) (c : Clause) (before : List ℕ) where
 module _ (p : Program) (k : ℕ) (c : Clause) (at-k : Nth (p .clauses) k c) (before dir : List ℕ) (i : ℕ) (w : Listed-from p k c before dir i) (less : i < length (c .body))
     (first : ℕ) (e : first ≡ firstOf p k) (room : bodyList + (first + i) < length dir) (m : ℕ) (h : Marks (λ v. In v (c .head ∷ take i (c .body))) m) where
   pub listed-step : Listed-from p k c before (set dir (bodyList + (first + i)) (bitAnd (getD dir (bodyList + (first + i)) 0) m)) (i + 1)
-  listed-step = let (A, q) = nth-at (c .body) i less in rw e (listed-more p k c before dir i w A q (rw e at room) m h)
+  listed-step = let (A, q) = below-nth (c .body) i less in rw e (listed-more p k c before dir i w A q (rw e at room) m h)
 
   pub before-step : (n : ℕ) → ((A : Term) → Nth (bodies (p .clauses)) (first + i) A → Marks (λ v. Occ v A) n)
       → Marks (λ v. In v (c .head ∷ take (i + 1) (c .body))) (bitOr m n)
   before-step n f =
-      let (A, q) = nth-at (c .body) i less in
+      let (A, q) = below-nth (c .body) i less in
       before-mask p k c before dir i w A q (rw e at room) m h n (f A (rw e (body-number p at-k q)))
 
 -- the lists of one clause more

@@ -9,13 +9,13 @@ use lib.Seq.{take-length}
 use Rattle.terms.specs.Term.{Term}
 use Rattle.program.specs.Program.{Nth, Clause, Program, bodies}
 use Rattle.program.specs.Faults.{faults, sound}
+use Rattle.program.proofs.Nths.{below-nth, nth-below}
 use Rattle.directory.specs.Layout.{bodyCount, clauseFirst, bodyList}
 use Rattle.directory.specs.Directory.{BodyAt, ClauseAt, Directory}
 use Rattle.directory.specs.Said.{said, Accepted}
 use Rattle.directory.specs.Walked.{Placed}
 use Rattle.directory.specs.Lists.{firstOf, Lists}
 use Rattle.directory.specs.Named.{Shapes-named}
-use Rattle.directory.proofs.Cuts.{nth-at, nth-within}
 use Rattle.directory.proofs.AcceptedWords.{said-is}
 use Rattle.directory.proofs.PlacedLaws.{bodies-at-most, placed-kept}
 use Rattle.directory.proofs.BodyNumbers.{first-next, body-number, each-number}
@@ -31,7 +31,7 @@ module _ (words : List ℕ) (a : Accepted words) (d₁ d₂ d₃ : List ℕ) (w�
   clause-at : {k : ℕ} {c : Clause} → Nth (p .clauses) k c → ClauseAt words d₃ c k
   clause-at {k} {c} q =
       let h = w .heads q in
-      let n = nth-within q in
+      let n = nth-below q in
       let e : firstOf p (suc k) ≡ firstOf p k + length (c .body) = ap (λ (x : ℕ). firstOf p x) (sym (add-one k)) ∙ first-next p q in
       record {
         stands = h .stands;
@@ -42,24 +42,24 @@ module _ (words : List ℕ) (a : Accepted words) (d₁ d₂ d₃ : List ℕ) (w�
 
   body-at : {k i : ℕ} {c : Clause} {A : Term} → Nth (p .clauses) k c → Nth (c .body) i A → BodyAt words p d₃ c i A (getD d₃ (clauseFirst + k) 0 + i)
   body-at {k} {i} {c} {A} q h =
-      let n = nth-within q in
+      let n = nth-below q in
       let j = body-number p q h in
       let few = bodies-at-most words a in
-      let less = nth-within j in
+      let less = nth-below j in
       rw (w .firsts k (omega arith))
       (record {
         within = rw (w .body-count) less;
         stands = w .written j;
         shape = s .numbers j;
-        list = rw (s .kept (bodyList + (firstOf p k + i)) (omega arith)) (l .lists q n i (nth-within h));
+        list = rw (s .kept (bodyList + (firstOf p k + i)) (omega arith)) (l .lists q n i (nth-below h));
       })
 
   each-body : (j : ℕ) → j < getD d₃ bodyCount 0
       → (k : ℕ) × (i : ℕ) × (c : Clause) × (A : Term) × Nth (p .clauses) k c × Nth (c .body) i A × (j ≡ getD d₃ (clauseFirst + k) 0 + i)
   each-body j h =
-      let (A, q) = nth-at (bodies (p .clauses)) j (rw (w .body-count) at h) in
+      let (A, q) = below-nth (bodies (p .clauses)) j (rw (w .body-count) at h) in
       let (k, i, c, q₁, q₂, e) = each-number (p .clauses) j q in
-      let n = nth-within q₁ in
+      let n = nth-below q₁ in
       (k, i, c, A, q₁, q₂, e ∙ ap (λ (x : ℕ). x + i) (sym (w .firsts k (omega arith))))
 
   made : Directory words p d₃

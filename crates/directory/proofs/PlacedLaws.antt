@@ -9,11 +9,12 @@ use Rattle.terms.specs.Term.{Term}
 use Rattle.terms.specs.Cells.{Atom}
 use Rattle.program.specs.Program.{Nth, Clause, Program, bodies}
 use Rattle.program.specs.Within.{Each, none, more, encodeClauses, WithinClause}
+use Rattle.program.proofs.Nths.{nth-below}
 use Rattle.directory.specs.Layout.{bodyCount, clauseCount, functionsStart, clausesStart, goalStart, goalCells, goalGround, clauseHead, clauseCells, clauseFirst, clauseVars, bodyStart, bodyCells, bodyList, dirWords, predicatesStart, maxBodies}
 use Rattle.directory.specs.Said.{said, Accepted}
 use Rattle.directory.specs.Walked.{Clauses-written, Goal-written, Head-in, Placed}
 use Rattle.directory.specs.Lists.{Variables-at, firstOf}
-use Rattle.directory.proofs.Cuts.{nth-within, each-nth}
+use Rattle.directory.proofs.Cuts.{each-nth}
 use Rattle.directory.proofs.ClausesWalk.{bodies-most}
 use Rattle.directory.proofs.AcceptedWords.{said-within, words-short, goalPart, predicates-are, functions-are, clauses-within}
 
@@ -81,7 +82,7 @@ module _ (words : List ℕ) (a : Accepted words) (f at n : ℕ) (f-is : f ≡ pr
 
   head-placed : {x : ℕ} {c : Clause} → Nth (p .clauses) x c → Head-in words placedIn c x
   head-placed {x} q =
-      let h = w .heads q (nth-within q) in
+      let h = w .heads q (nth-below q) in
       record {
         stands = rw (far-behind (clauseHead + x) (omega arith), far-behind (clauseCells + x) (omega arith)) (h .stands);
         head-variables = λ v. rw (far-behind (clauseVars + x) (omega arith)) (h .head-variables v);
@@ -113,7 +114,7 @@ module _ (words : List ℕ) (a : Accepted words) (dir dir′ : List ℕ) (size :
   head-kept : {x : ℕ} {c : Clause} → Nth (said words .clauses) x c → Head-in words dir′ c x
   head-kept {x} q =
       let h = w .heads q in
-      let l = nth-within q in
+      let l = nth-below q in
       let most = said-within words a .clauses-most in
       record {
         stands = rw (same (clauseHead + x) (omega arith), same (clauseCells + x) (omega arith)) (h .stands);
@@ -137,7 +138,7 @@ module _ (words : List ℕ) (a : Accepted words) (dir dir′ : List ℕ) (size :
         heads = λ q. head-kept q;
         firsts = λ x h. same (clauseFirst + x) (omega arith) ∙ w .firsts x h;
         written = λ {x} q.
-            let l = nth-within q in
+            let l = nth-below q in
             let few = bodies-at-most words a in
             rw (same (bodyStart + x) (omega arith), same (bodyCells + x) (omega arith)) (w .written q);
       }

@@ -13,12 +13,12 @@ use Rattle.terms.specs.Cells.{variables, Atom}
 use Rattle.program.specs.Limits.{maxDeclared}
 use Rattle.program.specs.Program.{Nth}
 use Rattle.program.proofs.ShapeLaws.{nth-same}
+use Rattle.program.proofs.Nths.{nth-below, nth-last}
 use Rattle.directory.specs.Layout.{shapeStart, shapeVars, shapeNext, predicateShape, shapeCells, maxShapes, maxShapeCells}
 use Rattle.directory.specs.Directory.{Stands-at, predicateOf, Link, ShapeAt}
 use Rattle.directory.specs.Shaped.{Shaped, Slot, Seeking, addedTo}
-use Rattle.directory.proofs.Cuts.{nth-within}
 use Rattle.directory.proofs.Parts.{parts-same}
-use Rattle.directory.proofs.Links.{nth-last-cases, link-grows, link-new, link-none}
+use Rattle.directory.proofs.Links.{link-grows, link-new, link-none}
 
 module _ (P F : List ℕ) (ss : List Term) (dir : List ℕ) (w : Shaped P F ss dir) (more : length ss < maxShapes)
     (S : Term) (sound : Atom P F S) (q slot : ℕ) (is-q : predicateOf S ≡ q) (seek : Seeking ss S q slot 0) (q-declared : q < maxDeclared)
@@ -31,7 +31,7 @@ module _ (P F : List ℕ) (ss : List Term) (dir : List ℕ) (w : Shaped P F ss d
     where
       by : Slot ss q slot (seek .from) → (predicateShape ≤ slot) × (slot < shapeNext + length ss)
       by (inl (e, z)) = (omega arith, omega arith)
-      by (inr (t, T, e, f, h, r)) = let l = nth-within h in (omega arith, omega arith)
+      by (inr (t, T, e, f, h, r)) = let l = nth-below h in (omega arith, omega arith)
 
   abbrev pub added : List ℕ
   added = addedTo dir slot count vars end
@@ -135,10 +135,10 @@ module _ (P F : List ℕ) (ss : List Term) (dir : List ℕ) (w : Shaped P F ss d
   old-next : {x : ℕ} {T : Term} → Nth ss x T → Dec (slot ≡ shapeNext + x) → Link (ss ++ (S ∷ [])) (predicateOf T) (suc x) (getD added (shapeNext + x) 0)
   old-next {x} {T} h (yes e) =
       let (l, pr) = slot-link x T h e in
-      let n = nth-within h in
+      let n = nth-below h in
       rw (← e, new-link, pr) (link-new ss S q (suc x) l (omega arith) is-q)
   old-next {x} {T} h (no ne) =
-      let n = nth-within h in
+      let n = nth-below h in
       rw (link-kept (shapeNext + x) (omega arith) (omega arith) (λ z. ne (sym z)))
       (link-grows ss S (predicateOf T) (suc x) (getD dir (shapeNext + x) 0) (w .shape h .next)
       (λ pr. named-else x T h (sym pr ∙ is-q) ne))
@@ -172,7 +172,7 @@ module _ (P F : List ℕ) (ss : List Term) (dir : List ℕ) (w : Shaped P F ss d
 
   old-shape : {x : ℕ} {T : Term} → Nth ss x T → ShapeAt (ss ++ (S ∷ [])) added T x
   old-shape {x} {T} h =
-      let n = nth-within h in
+      let n = nth-below h in
       let a = w .shape h in
       record {
         stands = rw (start-kept x (omega arith), start-kept (suc x) (omega arith)) (stands-added T _ _ (a .stands));
@@ -215,7 +215,7 @@ module _ (P F : List ℕ) (ss : List Term) (dir : List ℕ) (w : Shaped P F ss d
         many = rw e (omega arith);
         start-zero = start-kept 0 (omega arith) ∙ w .start-zero;
         total = rw (e, new-end) end-most;
-        shape = λ h. shapes-by (nth-last-cases ss h);
-        atom = λ h. atoms-by (nth-last-cases ss h);
+        shape = λ h. shapes-by (nth-last ss h);
+        atom = λ h. atoms-by (nth-last ss h);
         first = λ r l. old-first r l (ℕ-discrete slot (predicateShape + r));
       }

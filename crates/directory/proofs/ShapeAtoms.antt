@@ -11,9 +11,9 @@ use Rattle.terms.specs.Cells.{variables, enc, Keeps, Keepss, Atom}
 use Rattle.program.specs.Limits.{maxDeclared}
 use Rattle.program.specs.Shapes.{met, number, shapeOf}
 use Rattle.program.proofs.ShapeLaws.{place-nth, met-has}
+use Rattle.program.proofs.Nths.{nth-below}
 use Rattle.directory.specs.Numbers.{renamed}
 use Rattle.directory.specs.Directory.{predicateOf}
-use Rattle.directory.proofs.Cuts.{nth-within}
 use Rattle.directory.proofs.TermCells.{atom-renamed}
 use Rattle.directory.proofs.ShapeVariables.{met-few}
 
@@ -43,7 +43,7 @@ module _ (P F : List ℕ) (few : length P ≤ maxDeclared) (A : Term) (a : Atom 
 
   number-few : (v : ℕ) → Occ v A → number A v < variables
   number-few v o =
-      let l = nth-within (place-nth ℕ-discrete v (met [] A) (met-has A [] v o)) in
+      let l = nth-below (place-nth ℕ-discrete v (met [] A) (met-has A [] v o)) in
       let m = met-few P F A a in
       omega arith
 

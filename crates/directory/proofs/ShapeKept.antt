@@ -7,17 +7,17 @@ use lib.ListN.{length, getD, set, length-set}
 use lib.Seq.{getD-set-other}
 use Rattle.terms.specs.Term.{Term}
 use Rattle.program.specs.Program.{Nth}
+use Rattle.program.proofs.Nths.{below-nth, nth-below}
 use Rattle.directory.specs.Layout.{shapeStart, shapeVars, shapeNext, predicateShape, shapeCells}
 use Rattle.directory.specs.Directory.{Stands-at, ShapeAt}
 use Rattle.directory.specs.Shaped.{Shaped}
-use Rattle.directory.proofs.Cuts.{nth-at, nth-within}
 use Rattle.directory.proofs.Parts.{parts-same}
 
 module _ (P F : List ℕ) (ss : List Term) (dir : List ℕ) (w : Shaped P F ss dir) where
   starts-grow-by : (n s : ℕ) → s + n ≡ length ss → getD dir (shapeStart + s) 0 ≤ getD dir (shapeStart + length ss) 0
   starts-grow-by zero s e = let q : s ≡ length ss = omega arith in rw q (omega arith)
   starts-grow-by (suc n) s e =
-      let (S, h) = nth-at ss s (omega arith) in
+      let (S, h) = below-nth ss s (omega arith) in
       let o = w .shape h .ordered in
       let g = starts-grow-by n (suc s) (omega arith) in
       omega arith
@@ -33,7 +33,7 @@ module _ (P F : List ℕ) (ss : List Term) (dir : List ℕ) (w : Shaped P F ss d
     stands-kept {s} {S} h =
         let t = w .shape h .stands in
         let o = w .shape h .ordered in
-        let l = nth-within h in
+        let l = nth-below h in
         let g = starts-grow (suc s) (omega arith) in
         let f : shapeCells + getD dir (shapeStart + s) 0 + (getD dir (shapeStart + suc s) 0 - getD dir (shapeStart + s) 0) ≤ length dir′ = rw size (t .fits) in
         record {
@@ -57,7 +57,7 @@ module _ (P F : List ℕ) (ss : List Term) (dir : List ℕ) (w : Shaped P F ss d
       where
         kept : {s : ℕ} {S : Term} → Nth ss s S → ShapeAt ss dir′ S s
         kept {s} {S} h =
-            let l = nth-within h in
+            let l = nth-below h in
             let m = w .many in
             let a = w .shape h in
             record {

@@ -14,9 +14,10 @@ use Rattle.program.specs.Within.{encodeAtoms, encodeClauses}
 use Rattle.program.specs.Shapes.{place, with, shapeOf, distinct, shapes, shapeNumber}
 use Rattle.program.proofs.ShapeLaws.{place-nth, with-has}
 use Rattle.program.proofs.OwnShape.{with-old, with-new, place-old, place-new}
+use Rattle.program.proofs.Nths.{nth-below}
 use Rattle.directory.specs.Layout.{predicateShape}
 use Rattle.directory.specs.Named.{Cleared, shapesUpTo}
-use Rattle.directory.proofs.Cuts.{nth-take, nth-within}
+use Rattle.directory.proofs.Cuts.{nth-take}
 use Rattle.directory.proofs.ShapeSearch.{place-missing, member-by-place}
 
 -- no link is left
@@ -42,13 +43,13 @@ place-with l t = by (decLt (place sameTerm t l) (length l))
     by : Dec (place sameTerm t l < length l) → place sameTerm t (with sameTerm l t) ≡ place sameTerm t l
     by (yes h) = rw (with-old sameTerm l t (member-by-place sameTerm l t h))
     by (no h) =
-        let nm : List·Memᴰ t l → ⊥ = λ m. h (nth-within (place-nth sameTerm t l m)) in
+        let nm : List·Memᴰ t l → ⊥ = λ m. h (nth-below (place-nth sameTerm t l m)) in
         rw (with-new sameTerm l t nm, place-missing sameTerm l t nm) (place-new sameTerm l [] t nm)
 
 -- how many there are with it
 pub length-with-new : (l : List Term) (t : Term) → place sameTerm t l ≡ length l → length (with sameTerm l t) ≡ length l + 1
 length-with-new l t e =
-    let nm : List·Memᴰ t l → ⊥ = λ m. let h = nth-within (place-nth sameTerm t l m) in absurd (omega arith) in
+    let nm : List·Memᴰ t l → ⊥ = λ m. let h = nth-below (place-nth sameTerm t l m) in absurd (omega arith) in
     rw (with-new sameTerm l t nm) (length-append l (t ∷ []))
 
 pub place-most : (l : List Term) (t : Term) → place sameTerm t l ≤ length l
@@ -84,7 +85,7 @@ distinct-more (t ∷ ts) seen = by (decLt (place sameTerm t seen) (length seen))
         → (more : List Term) × (distinct (with sameTerm seen t) ts ≡ seen ++ more)
     by (yes h) (more, e) = (more, e ∙ ap (λ (l : List Term). l ++ more) (with-old sameTerm seen t (member-by-place sameTerm seen t h)))
     by (no h) (more, e) =
-        let nm : List·Memᴰ t seen → ⊥ = λ m. h (nth-within (place-nth sameTerm t seen m)) in
+        let nm : List·Memᴰ t seen → ⊥ = λ m. h (nth-below (place-nth sameTerm t seen m)) in
         (t ∷ more, e ∙ ap (λ (l : List Term). l ++ more) (with-new sameTerm seen t nm) ∙ append-assoc seen (t ∷ []) more)
 
 map-append : (f : Term → Term) (l m : List Term) → map f (l ++ m) ≡ map f l ++ map f m

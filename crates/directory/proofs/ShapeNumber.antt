@@ -16,12 +16,13 @@ use Rattle.program.specs.Limits.{maxDeclared}
 use Rattle.program.specs.Shapes.{place, met, number, shapeOf}
 use Rattle.program.proofs.ShapeLaws.{place-nth, met-has}
 use Rattle.program.proofs.OwnShape.{with-old, with-new}
+use Rattle.program.proofs.Nths.{nth-below}
 use Rattle.directory.specs.Layout.{shapeStart, shapeNext, predicateShape, shapeCells, dirWords, maxShapes}
 use Rattle.directory.specs.Directory.{Stands-at}
 use Rattle.directory.specs.Numbers.{metCells, Known, Numbered, renamed, numberIn, In-table, Renumbered}
 use Rattle.directory.specs.Shaped.{Shaped, Sought, FoundAs, addedTo, Asked, Answered}
 use Rattle.directory.specs.declared.shapes.Found.the-variants.{At, New}
-use Rattle.directory.proofs.Cuts.{middle-part, nth-within}
+use Rattle.directory.proofs.Cuts.{middle-part}
 use Rattle.directory.proofs.Parts.{part-length, part-at, part-is}
 use Rattle.directory.proofs.TermCells.{atom-met, atom-all-cells, atom-in-run}
 use Rattle.directory.proofs.ShapeVariables.{met-few, shape-variables}
@@ -99,7 +100,7 @@ module _ (words dir : List ℕ) (start cells count : ℕ) (a : Asked words dir s
     pub in-table : (i : ℕ) → i < length run → In-table table (cell i)
     in-table i l v =
         let e = table-is i l v in
-        let m = nth-within (place-nth ℕ-discrete (cell i - firstVariable) (metCells [] run) (in-met i l v)) in
+        let m = nth-below (place-nth ℕ-discrete (cell i - firstVariable) (metCells [] run) (in-met i l v)) in
         let k = h .count in
         let f = variables-few in
         (run-all-cells i l, omega arith, omega arith)

@@ -13,11 +13,11 @@ use Rattle.program.specs.Limits.{maxDeclared}
 use Rattle.program.specs.Program.{Nth, here, there}
 use Rattle.program.specs.Shapes.{place}
 use Rattle.program.proofs.ShapeLaws.{nth-same}
+use Rattle.program.proofs.Nths.{nth-below}
 use Rattle.directory.specs.Layout.{shapeStart, shapeNext, predicateShape, shapeCells, maxShapes, maxShapeCells}
 use Rattle.directory.specs.Directory.{Stands-at, predicateOf, ShapeAt}
 use Rattle.directory.specs.Shaped.{Sought, Slot, Seeking, FoundAs}
 use Rattle.directory.specs.declared.shapes.Found.the-variants.{At, New}
-use Rattle.directory.proofs.Cuts.{nth-within}
 use Rattle.directory.proofs.Parts.{part-length}
 
 -- a run determines its atom
@@ -91,7 +91,7 @@ module _ (dir : List ℕ) (q cells to : ℕ) (a : Sought dir q cells to) where
       next-is = omega arith
 
       pub link-most : link ≤ maxShapes
-      link-most = let l = nth-within other-at in let m = a .shaped .many in omega arith
+      link-most = let l = nth-below other-at in let m = a .shaped .many in omega arith
 
       -- its cells end where those of the next begin
       pub end-most : getD dir (shapeStart + link) 0 ≤ maxShapeCells
@@ -121,7 +121,7 @@ module _ (dir : List ℕ) (q cells to : ℕ) (a : Sought dir q cells to) where
           let t : enc other ≡ enc (a .S) = sym (other-stands .run) ∙ rw e (p ∙ a .stands .run) in
           let o : other ≡ a .S = atom-injective (a .predicates) (a .functions) other (a .S) (a .shaped .atom other-at) (a .sound) t in
           let at-s : Nth ss s (a .S) = rw o at other-at in
-          (nth-within other-at, place-first sameTerm ss (a .S) s at-s none-before)
+          (nth-below other-at, place-first sameTerm ss (a .S) s at-s none-before)
 
       -- another one is passed
       pub pass : (other ≡ a .S → ⊥) → Seeking ss (a .S) q (shapeNext + s) (getD dir (shapeNext + s) 0)

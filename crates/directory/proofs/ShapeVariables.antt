@@ -15,7 +15,7 @@ use Rattle.program.specs.Within.{after, afters, Numbered, Numbereds}
 use Rattle.program.proofs.ShapeLaws.{place-nth, met-has, map-has}
 use Rattle.program.proofs.OwnShape.{with-old, with-new, place-old, place-new, upTo, length-upTo, has-upTo, upTo-has}
 use Rattle.program.proofs.GoalShape.{meet-with}
-use Rattle.directory.proofs.Cuts.{nth-within}
+use Rattle.program.proofs.Nths.{nth-below}
 use Rattle.directory.proofs.Counting.{all-below-count}
 
 -- whether a number is in a list
@@ -102,7 +102,7 @@ shape-variables A v = (there, back)
     there : Occ v (shapeOf A) → v < length (met [] A)
     there o =
         let (x, q, e) = occ-sub A (λ y. var (number A y)) v o in
-        rw e (nth-within (place-nth ℕ-discrete x (met [] A) (met-has A [] x q)))
+        rw e (nth-below (place-nth ℕ-discrete x (met [] A) (met-has A [] x q)))
 
     back : v < length (met [] A) → Occ v (shapeOf A)
     back h =

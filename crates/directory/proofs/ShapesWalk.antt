@@ -13,13 +13,13 @@ use Rattle.program.specs.Program.{Nth, Program, bodies}
 use Rattle.program.specs.Within.{after, modesOf, encodeAtoms, encodeClauses}
 use Rattle.program.specs.Shapes.{with, shapeOf, shapeNumber}
 use Rattle.program.proofs.ShapeLaws.{nth-same}
+use Rattle.program.proofs.Nths.{below-nth, nth-below}
 use Rattle.directory.specs.Layout.{goalStart, goalCells, bodyStart, bodyCells, bodyShape, shapeCount, shapeStart, predicateShape, dirWords, maxShapeCells}
 use Rattle.directory.specs.Directory.{Stands-at}
 use Rattle.directory.specs.Said.{said, Accepted}
 use Rattle.directory.specs.Walked.{Placed}
 use Rattle.directory.specs.Shaped.{Shaped, Asked, Answered}
 use Rattle.directory.specs.Named.{Cleared, shapesUpTo, Shapes-found, Shapes-named}
-use Rattle.directory.proofs.Cuts.{nth-at, nth-within}
 use Rattle.directory.proofs.Parts.{part-length}
 use Rattle.directory.proofs.AcceptedWords.{said-within, said-words, goalPart, words-short}
 use Rattle.directory.proofs.PlacedLaws.{bodies-at-most, body-atom, placed-kept}
@@ -66,8 +66,8 @@ module _ (words : List ℕ) (a : Accepted words) where
           many = omega arith;
           start-zero = e;
           total = rw e (omega arith);
-          shape = λ h. let l = nth-within h in absurd (omega arith);
-          atom = λ h. let l = nth-within h in absurd (omega arith);
+          shape = λ h. let l = nth-below h in absurd (omega arith);
+          atom = λ h. let l = nth-below h in absurd (omega arith);
           first = λ q l. rw (getD-set-other dir shapeStart (predicateShape + q) 0 0 (λ y. omega arith), c .none q l) (link-empty q 0);
         }
 
@@ -117,7 +117,7 @@ module _ (words : List ℕ) (a : Accepted words) where
 
     module _ (less : j < length (bodies (p .clauses))) where
       abbrev nextOf : (A : Term) × Nth (bodies (p .clauses)) j A
-      nextOf = nth-at (bodies (p .clauses)) j less
+      nextOf = below-nth (bodies (p .clauses)) j less
 
       abbrev A : Term
       A = nextOf .0
@@ -178,7 +178,7 @@ module _ (words : List ℕ) (a : Accepted words) where
             let m = bodies-at-most words a in
             rw (same, ← e) (getD-set-same dir′ (bodyShape + j) r 0 (omega arith) ∙ x .number ∙ number-stays p (nextOf .1))
         number-by {y} {B} h l (no other) =
-            let n = nth-within h in
+            let n = nth-below h in
             let m = bodies-at-most words a in
             getD-set-other dir′ (bodyShape + j) (bodyShape + y) r 0 (λ q. omega arith) ∙ x .kept (bodyShape + y) (omega arith) ∙ w .numbers h (omega arith)
 
@@ -213,7 +213,7 @@ module _ (words : List ℕ) (a : Accepted words) where
           shaped = rw n at (shaped-set (p .predicates) (p .functions) _ dir (w .shaped) shapeCount count (omega arith));
           counted = getD-set-same dir shapeCount count 0 (omega arith) ∙ w .counted ∙ ap length n;
           numbers = λ {x = y} h.
-              let l = nth-within h in
+              let l = nth-below h in
               getD-set-other dir shapeCount (bodyShape + y) count 0 (λ q. omega arith) ∙ w .numbers h (omega arith);
           kept = λ y l. getD-set-other dir shapeCount y count 0 (λ q. omega arith) ∙ w .kept y l;
         }

@@ -1,5 +1,5 @@
 -- The answers to a place's atom, in two listings, and what the cont rows of the place make with them: what rule 2 makes with a new row.
-use Prim.Native.Nat.{ℕ, suc, _+_, _-_, _≤_, _<_}
+use Prim.Native.Nat.{ℕ, suc, _+_, _≤_, _<_}
 use native.Mathlib.Omega.{arith}
 use native.Mathlib.Decide.{decLt}
 use mathlib.Core.Path.{_≡_, refl, sym, ap, subst, _∙_}
@@ -12,7 +12,7 @@ use Rattle.marks.specs.Modes.{modes, Together}
 use Rattle.program.specs.Program.{Nth, Program}
 use Rattle.program.specs.Shapes.{shapes}
 use Rattle.program.proofs.ShapeLaws.{nth-same}
-use Rattle.directory.proofs.Cuts.{nth-within}
+use Rattle.program.proofs.Nths.{nth-below}
 use Rattle.rows.specs.Rows.{slots, slotAt, maskAt, keysOf}
 use Rattle.rows.specs.MaskSet.{setWords, InSet}
 use Rattle.rows.proofs.MaskSets.{none-in-zeros}
@@ -129,7 +129,7 @@ module _ {words dir table heads : List ℕ} {since rows j : ℕ} (w : Situation 
       let few = body-few (w .setting) (b .nth-clause) (b .nth-atom) in
       ap (λ (s : ℕ). rowAt p s (maskAt table r)) (e ∙ ap (λ (x : ℕ). firstCont + x) (b .is))
       ∙ (cont-at p (bodyIndex p (b .k) (b .i)) (maskAt table r) (omega arith)
-      ∙ rw (clause-at (p .clauses) (b .nth-clause) (b .i) (nth-within (b .nth-atom)), place-at (p .clauses) (b .nth-clause) (b .i) (nth-within (b .nth-atom))))
+      ∙ rw (clause-at (p .clauses) (b .nth-clause) (b .i) (nth-below (b .nth-atom)), place-at (p .clauses) (b .nth-clause) (b .i) (nth-below (b .nth-atom))))
 
   solution-is : (r s : ℕ) → slotAt table r ≡ firstSolution + s → rowAt (w .p) (slotAt table r) (maskAt table r) ≡ solution s (maskAt table r)
   solution-is r s e = ap (λ (x : ℕ). rowAt (w .p) x (maskAt table r)) e ∙ solution-at (w .p) s (maskAt table r)

@@ -1,6 +1,7 @@
 -- The laws of encoded programs, each module named by its subject.
 pub mod Samples
 pub mod ListLaws
+pub mod Nths
 pub mod ShapeLaws
 pub mod Parts
 pub mod Taking

@@ -1,5 +1,5 @@
 -- Lists in which each stands once, in the order of the first appearances: the laws of `place` and `with`.
-use Prim.Native.Nat.{ℕ, zero, suc, _<_}
+use Prim.Native.Nat.{ℕ, zero, suc}
 use native.Mathlib.Omega.{arith}
 use mathlib.Core.Path.{_≡_, refl, sym, ap, _∙_}
 use mathlib.Core.Logic.{_⊎_, inl, inr}
@@ -7,6 +7,7 @@ use mathlib.Core.List.{List, [], _∷_, _++_, map}
 use lib.ListN.{length}
 use Rattle.program.specs.Program.{Nth, here, there}
 use Rattle.program.specs.Shapes.{place, with}
+use Rattle.program.proofs.Nths.{nth-below, nth-left, nth-last, last-nth}
 
 -- no two places of the list have the same
 abbrev pub Distinct : {A : Type 0} → List A → Type 0
@@ -21,14 +22,6 @@ nth-first here = refl
 
 pub nth-later : {A : Type 0} {a b : A} {l : List A} {i : ℕ} → Nth (b ∷ l) (suc i) a → Nth l i a
 nth-later (there n) = n
-
-pub nth-inside : {A : Type 0} {a : A} {l : List A} {i : ℕ} → Nth l i a → i < length l
-nth-inside {l = a ∷ l} here = omega arith
-nth-inside {l = b ∷ l} (there n) = let h = nth-inside n in omega arith
-
-pub nth-append : {A : Type 0} {a : A} {l : List A} {i : ℕ} (r : List A) → Nth l i a → Nth (l ++ r) i a
-nth-append r here = here
-nth-append r (there n) = there (nth-append r n)
 
 pub nth-map : {A B : Type 0} {a : A} {l : List A} {i : ℕ} (f : A → B) → Nth l i a → Nth (map f l) i (f a)
 nth-map f here = here
@@ -73,7 +66,7 @@ module _ {A : Type 0} (same : Discrete A) where
 
   -- a list by one is the list, or has it behind; and it is new then
   pub with-cases : (l : List A) (a : A) → ((with same l a ≡ l) × Somewhere l a) ⊎ ((with same l a ≡ l ++ a ∷ []) × (Somewhere l a → ⊥))
-  with-cases [] a = inr (refl, λ s. let h = nth-inside (s .1) in omega arith)
+  with-cases [] a = inr (refl, λ s. let h = nth-below (s .1) in omega arith)
   with-cases (b ∷ l) a = by (same a b) (with-cases l a)
     where
       by : Dec (a ≡ b) → ((with same l a ≡ l) × Somewhere l a) ⊎ ((with same l a ≡ l ++ a ∷ []) × (Somewhere l a → ⊥))
@@ -95,27 +88,13 @@ module _ {A : Type 0} (same : Discrete A) where
   pub place-is : (a : A) (l : List A) (i : ℕ) → Distinct l → Nth l i a → place same a l ≡ i
   place-is a l i d n = d (place same a l) i a (place-stands a l i n) n
 
-  pub nth-last : (l : List A) (a b : A) (i : ℕ) → Nth (l ++ a ∷ []) i b → Nth l i b ⊎ ((i ≡ length l) × (b ≡ a))
-  nth-last [] a b zero n = inr (refl, nth-first n)
-  nth-last [] a b (suc i) n = let h = nth-inside (nth-later n) in absurd (omega arith)
-  nth-last (x ∷ l) a b zero n = inl (rw (nth-first n) here)
-  nth-last (x ∷ l) a b (suc i) n = by (nth-last l a b i (nth-later n))
-    where
-      by : Nth l i b ⊎ ((i ≡ length l) × (b ≡ a)) → Nth (x ∷ l) (suc i) b ⊎ ((suc i ≡ length (x ∷ l)) × (b ≡ a))
-      by (inl m) = inl (there m)
-      by (inr e) = inr (ap suc (e .0), e .1)
-
-  pub last-nth : (l : List A) (a : A) → Nth (l ++ a ∷ []) (length l) a
-  last-nth [] a = here
-  last-nth (x ∷ l) a = there (last-nth l a)
-
   last-distinct : (l : List A) (a : A) → Distinct l → (Somewhere l a → ⊥) → Distinct (l ++ a ∷ [])
-  last-distinct l a d no-a i j b n m = by (nth-last l a b i n) (nth-last l a b j m)
+  last-distinct l a d no-a i j b n m = by (nth-last l n) (nth-last l m)
     where
-      by : Nth l i b ⊎ ((i ≡ length l) × (b ≡ a)) → Nth l j b ⊎ ((j ≡ length l) × (b ≡ a)) → i ≡ j
+      by : Nth l i b ⊎ ((i ≡ length l) × (a ≡ b)) → Nth l j b ⊎ ((j ≡ length l) × (a ≡ b)) → i ≡ j
       by (inl x) (inl y) = d i j b x y
-      by (inl x) (inr y) = absurd (no-a (i, rw (y .1) at x))
-      by (inr x) (inl y) = absurd (no-a (j, rw (x .1) at y))
+      by (inl x) (inr y) = absurd (no-a (i, rw (y .1) x))
+      by (inr x) (inl y) = absurd (no-a (j, rw (x .1) y))
       by (inr x) (inr y) = x .0 ∙ sym (y .0)
 
   pub with-distinct : (l : List A) (a : A) → Distinct l → Distinct (with same l a)
@@ -138,16 +117,16 @@ module _ {A : Type 0} (same : Discrete A) where
     where
       by : ((with same l a ≡ l) × Somewhere l a) ⊎ ((with same l a ≡ l ++ a ∷ []) × (Somewhere l a → ⊥)) → Nth (with same l a) i b
       by (inl w) = rw (w .0) n
-      by (inr w) = rw (w .0) (nth-append (a ∷ []) n)
+      by (inr w) = rw (w .0) (nth-left (a ∷ []) n)
 
   -- what stands in a list by one stood there or is the one
   pub with-sound : (l : List A) (a b : A) (i : ℕ) → Nth (with same l a) i b → Somewhere l b ⊎ (b ≡ a)
   with-sound l a b i n = by (with-cases l a)
     where
-      last : Nth l i b ⊎ ((i ≡ length l) × (b ≡ a)) → Somewhere l b ⊎ (b ≡ a)
+      last : Nth l i b ⊎ ((i ≡ length l) × (a ≡ b)) → Somewhere l b ⊎ (b ≡ a)
       last (inl m) = inl (i, m)
-      last (inr e) = inr (e .1)
+      last (inr e) = inr (sym (e .1))
 
       by : ((with same l a ≡ l) × Somewhere l a) ⊎ ((with same l a ≡ l ++ a ∷ []) × (Somewhere l a → ⊥)) → Somewhere l b ⊎ (b ≡ a)
       by (inl w) = inl (i, rw (w .0) at n)
-      by (inr w) = last (nth-last l a b i (rw (w .0) at n))
+      by (inr w) = last (nth-last l (rw (w .0) at n))

@@ -4,11 +4,11 @@ use native.Mathlib.Omega.{arith}
 use mathlib.Core.Path.{_≡_, refl, sym, ap, _∙_}
 use mathlib.Core.Logic.{_⊎_, inl, inr}
 use mathlib.Core.List.{List, [], _∷_, _++_, map, append-assoc, append-nil}
-use lib.ListN.{length}
 use Rattle.terms.specs.Term.{Term, sameTerm}
-use Rattle.program.specs.Program.{Nth, here, there, Clause, Program, bodies}
-use Rattle.program.specs.Shapes.{place, with, shapeOf, distinct, shapes, shapeNumber}
-use Rattle.program.proofs.Once.{Distinct, Somewhere, nth-first, nth-later, nth-inside, nth-map, map-nth, with-cases, with-distinct, with-stands, with-keeps, with-sound, place-stands}
+use Rattle.program.specs.Program.{Nth, here, there, Program, bodies}
+use Rattle.program.specs.Shapes.{with, shapeOf, distinct, shapes, shapeNumber}
+use Rattle.program.proofs.Once.{Distinct, Somewhere, nth-first, nth-later, nth-map, map-nth, with-cases, with-distinct, with-stands, with-keeps, with-sound, place-stands}
+use Rattle.program.proofs.Nths.{nth-below}
 
 -- what was seen keeps its number
 pub distinct-keeps : (ts seen : List Term) (i : ℕ) (s : Term) → Nth seen i s → Nth (distinct seen ts) i s
@@ -54,7 +54,7 @@ distinct-extends (t ∷ ts) seen = by (with-cases sameTerm seen t) (distinct-ext
 module _ (p : Program) where
   -- "each distinct shape numbered once"
   pub shapes-distinct : Distinct (shapes p)
-  shapes-distinct = distinct-distinct (shapeOf (p .goal) ∷ map shapeOf (bodies (p .clauses))) [] (λ i j s n m. let h = nth-inside n in absurd (omega arith))
+  shapes-distinct = distinct-distinct (shapeOf (p .goal) ∷ map shapeOf (bodies (p .clauses))) [] (λ i j s n m. let h = nth-below n in absurd (omega arith))
 
   -- "Shape 0 is the goal's"
   pub shapes-goal : Nth (shapes p) zero (shapeOf (p .goal))
@@ -77,7 +77,7 @@ module _ (p : Program) where
 
       by : Somewhere [] s ⊎ Somewhere (shapeOf (p .goal) ∷ map shapeOf (bodies (p .clauses))) s
           → (s ≡ shapeOf (p .goal)) ⊎ ((t : Term) × (k : ℕ) × Nth (bodies (p .clauses)) k t × (s ≡ shapeOf t))
-      by (inl w) = let h = nth-inside (w .1) in absurd (omega arith)
+      by (inl w) = let h = nth-below (w .1) in absurd (omega arith)
       by (inr w) = at (w .0) (w .1)
 
   -- "the body atoms follow in program order": the shapes of the first atoms are the first shapes

@@ -10,9 +10,9 @@ use Rattle.terms.proofs.Masks.{marks-below}
 use Rattle.program.specs.Program.{Nth, Clause, Program}
 use Rattle.program.specs.Limits.{maxDeclared}
 use Rattle.program.proofs.ShapeLaws.{nth-same}
+use Rattle.program.proofs.Nths.{nth-below}
 use Rattle.directory.specs.Layout.{clauseHead, clauseCells, clauseVars, predicateShape, dirWords}
 use Rattle.directory.specs.Directory.{predicateOf, ClauseAt}
-use Rattle.directory.proofs.Cuts.{nth-within}
 use Rattle.rows.specs.Rows.{masks}
 use Rattle.rows.specs.MaskSet.{setWords, InSet}
 use Rattle.table.proofs.Promise.{sound-same}
@@ -57,7 +57,7 @@ module _ {words dir table heads found : List ℕ} {since old k : ℕ} (w : Situa
   head-atom = head-is-atom (w .setting) (f .nth-clause)
 
   pub clause-few : (k < maxDeclared) × (length dir ≡ dirWords)
-  clause-few = (omega (arith, nth-within (f .nth-clause), setting-within (w .setting) .clauses-most), w .setting .directory .size)
+  clause-few = (omega (arith, nth-below (f .nth-clause), setting-within (w .setting) .clauses-most), w .setting .directory .size)
 
   pub vars-few : vars ≤ variables
   vars-few = clause-at .few

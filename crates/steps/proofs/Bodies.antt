@@ -7,9 +7,10 @@ use lib.ListN.{length, getD, take, length-append}
 use Rattle.terms.specs.Term.{Term}
 use Rattle.terms.specs.Cells.{Atom}
 use Rattle.program.specs.Program.{Nth, Clause, Program, bodies}
+use Rattle.program.proofs.Nths.{below-nth, nth-below}
 use Rattle.directory.specs.Layout.{clauseFirst, maxBodies}
 use Rattle.directory.specs.Directory.{BodyAt}
-use Rattle.directory.proofs.Cuts.{nth-at, nth-within, each-nth}
+use Rattle.directory.proofs.Cuts.{each-nth}
 use Rattle.directory.proofs.ClausesWalk.{bodies-next}
 use Rattle.table.specs.Keys.{bodyIndex}
 use Rattle.table.proofs.Keys.{index-below}
@@ -21,7 +22,7 @@ module _ {words dir : List ℕ} {p : Program} (s : Setting words dir p) where
   pub first-body : (k : ℕ) → k ≤ length (p .clauses) → getD dir (clauseFirst + k) 0 ≡ length (bodies (take k (p .clauses)))
   first-body zero l = s .directory .first-zero
   first-body (suc k) l =
-      let (c, hc) = nth-at (p .clauses) k (omega arith) in
+      let (c, hc) = below-nth (p .clauses) k (omega arith) in
       let before = first-body k (omega arith) in
       s .directory .clause hc .first-next
       ∙ rw (bodies-next hc, length-append (bodies (take k (p .clauses))) (c .body)) (ap (λ (n : ℕ). n + length (c .body)) before)
@@ -29,7 +30,7 @@ module _ {words dir : List ℕ} {p : Program} (s : Setting words dir p) where
   module _ {k i : ℕ} {c : Clause} {A : Term} (hc : Nth (p .clauses) k c) (hA : Nth (c .body) i A) where
     pub body-there : BodyAt words p dir c i A (bodyIndex p k i)
     body-there =
-        let e = first-body k (let l = nth-within hc in omega arith) in
+        let e = first-body k (let l = nth-below hc in omega arith) in
         rw (← e) (s .directory .body hc hA)
 
     pub body-few : bodyIndex p k i < maxBodies

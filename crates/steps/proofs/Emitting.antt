@@ -13,9 +13,9 @@ use Rattle.marks.proofs.RowMasks.{kept-by-list, reordered-renumbered}
 use Rattle.program.specs.Program.{Program}
 use Rattle.program.specs.Shapes.{shapeNumber, number, Listed}
 use Rattle.program.proofs.ShapeLaws.{body-shape}
+use Rattle.program.proofs.Nths.{nth-below}
 use Rattle.directory.specs.Layout.{bodyList, bodyShape, dirWords, maxBodies}
 use Rattle.directory.specs.Directory.{BodyAt}
-use Rattle.directory.proofs.Cuts.{nth-within}
 use Rattle.rows.specs.Rows.{slots}
 use Rattle.rows.specs.Store.{Added}
 use Rattle.rows.proofs.AddedRows.{added-store}
@@ -74,7 +74,7 @@ module _ {dir order : List ℕ} {count j : ℕ} (w : Place dir order count j) wh
   pub place-shape : getD dir (bodyShape + j) 0 < slots
   place-shape =
       let d = w .setting .directory in
-      rw (place-there .shape) (omega (arith, nth-within (body-shape (w .p) (w .nth-clause) (w .nth-atom)), d .shape-count, d .shapes-most))
+      rw (place-there .shape) (omega (arith, nth-below (body-shape (w .p) (w .nth-clause) (w .nth-atom)), d .shape-count, d .shapes-most))
 
   module _ (table buckets ks : List ℕ) (round room n mask listed : ℕ)
       (kept : Kept (Has (getD dir (bodyList + j) 0)) mask listed)

@@ -12,9 +12,9 @@ use Rattle.program.specs.Program.{Program}
 use Rattle.program.specs.Shapes.{shapes}
 use Rattle.program.specs.Within.{WithinLimits}
 use Rattle.program.proofs.ProgramWords.{sound-within}
+use Rattle.program.proofs.Nths.{nth-below}
 use Rattle.directory.specs.Layout.{functionsStart, clausesStart, predicatesStart, shapeStart, shapeCells, maxShapes, dirWords}
 use Rattle.directory.specs.Directory.{ShapeAt}
-use Rattle.directory.proofs.Cuts.{nth-within}
 use Rattle.steps.specs.Situation.{Setting, Meeting, Met}
 use Rattle.steps.proofs.ShapeAtoms.{shape-is-atom}
 
@@ -30,7 +30,7 @@ module _ {words dir : List ℕ} {shape start cells : ℕ} (m : Meeting words dir
   shape-at = m .setting .directory .shape (m .nth-shape)
 
   pub shape-few : shape < maxShapes
-  shape-few = let d = m .setting .directory in omega (arith, nth-within (m .nth-shape), d .shape-count, d .shapes-most)
+  shape-few = let d = m .setting .directory in omega (arith, nth-below (m .nth-shape), d .shape-count, d .shapes-most)
 
   -- the shape's cells are in the directory
   pub shape-part : (dirWords ≡ length dir) × (getD dir (shapeStart + shape) 0 ≤ getD dir (shapeStart + shape + 1) 0) × (shapeCells + getD dir (shapeStart + shape + 1) 0 ≤ length dir)

@@ -9,10 +9,10 @@ use lib.ListN.{length, take, length-append}
 use borrow.Author.Tests.{lt-ltb, le-ltb}
 use Rattle.terms.specs.Term.{Term}
 use Rattle.program.specs.Program.{Nth, here, there, Clause, Program, bodies}
+use Rattle.program.proofs.Nths.{nth-below, below-nth, nth-left, nth-right}
 use Rattle.table.specs.Rules.{Row, call, cont, solution}
 use Rattle.table.specs.Table.{rowWords, mask, Entry, entryWords, Before}
 use Rattle.table.specs.Keys.{firstCont, firstSolution, masks, bodyIndex, slotOf, keyOf, clauseAt, placeAt, rowAt, rowOf, Few, Regular, regular-call, regular-cont, regular-solution, Slot, slot-call, slot-cont, slot-solution}
-use Rattle.table.proofs.Lists.{nth-below, below-nth, nth-left, nth-right}
 use Rattle.table.proofs.Promise.{before-once}
 
 -- the body atoms of the first clauses, with one clause before them

@@ -1,10 +1,8 @@
 -- Lists of all that a rule finds: for each element of a list, what stands at a place, and which elements they have.
-use Prim.Native.Nat.{ℕ, zero, suc, _+_, _<_}
-use native.Mathlib.Omega.{arith}
+use Prim.Native.Nat.{ℕ, zero, suc}
 use mathlib.Core.Path.{_≡_, refl}
 use mathlib.Core.Logic.{_⊎_, inl, inr}
 use mathlib.Core.List.{List, [], _∷_, _++_, map, List·Memᴰ, List·Memᴰ·head, List·Memᴰ·tail, List·Memᴰ·cases-cons, List·Memᴰ·append-cases, Memᴰ·append-left, Memᴰ·append-right}
-use lib.ListN.{length}
 use Rattle.program.specs.Program.{Nth, here, there}
 use Rattle.program.specs.Shapes.{with}
 use Rattle.program.proofs.ShapeLaws.{map-has, with-keeps, with-has}
@@ -43,24 +41,6 @@ at-has (there h) = at-has h
 pub has-at : {A : Type 0} (l : List A) (n : ℕ) {a : A} → List·Memᴰ a (at l n) → Nth l n a
 has-at (b ∷ l) zero (List·Memᴰ·head e) = rw e here
 has-at (b ∷ l) (suc n) m = there (has-at l n m)
-
--- places are below the length, and something stands at each
-pub nth-below : {A : Type 0} {l : List A} {n : ℕ} {a : A} → Nth l n a → n < length l
-nth-below here = omega arith
-nth-below (there h) = let l = nth-below h in omega arith
-
-pub below-nth : {A : Type 0} (l : List A) (n : ℕ) → n < length l → (a : A) × Nth l n a
-below-nth [] n h = absurd (omega arith)
-below-nth (a ∷ l) zero h = (a, here)
-below-nth (a ∷ l) (suc n) h = let (b, m) = below-nth l n (omega arith) in (b, there m)
-
-pub nth-left : {A : Type 0} {l : List A} {n : ℕ} {a : A} (m : List A) → Nth l n a → Nth (l ++ m) n a
-nth-left m here = here
-nth-left m (there h) = there (nth-left m h)
-
-pub nth-right : {A : Type 0} (l : List A) {m : List A} {n : ℕ} {a : A} → Nth m n a → Nth (l ++ m) (length l + n) a
-nth-right [] {n = n} h = let e : 0 + n ≡ n = omega arith in rw e h
-nth-right (b ∷ l) {n = n} h = let e : length (b ∷ l) + n ≡ suc (length l + n) = omega arith in rw e (there (nth-right l h))
 
 -- the places of a list
 abbrev pub places : {A : Type 0} → List A → List ℕ

@@ -6,13 +6,13 @@ use lib.ListN.{length}
 use Rattle.marks.specs.Modes.{modes}
 use Rattle.program.specs.Program.{Nth, Clause, Program}
 use Rattle.program.proofs.ShapeLaws.{nth-same}
+use Rattle.program.proofs.Nths.{nth-below}
 use Rattle.table.specs.Rules.{Row}
 use Rattle.table.specs.Keys.{keyOf}
 use Rattle.table.specs.Steps.{GoesOn, goes-call, goes-cont, EndsIn, ends-in}
 use Rattle.table.specs.Added.{Below}
 use Rattle.table.specs.NewRows.{NewGoesOn, NewEnds, LateCalls, NewIn, NewGives}
 use Rattle.table.specs.RoundKeys.{Keyed}
-use Rattle.table.proofs.Lists.{nth-below}
 
 -- marks go on at a place of a clause of the program, and end in one
 goes-clause : {p : Program} {k i N : ℕ} {row : Row ℕ} → GoesOn modes p k i N row → k < length (p .clauses)

@@ -16,9 +16,10 @@ use Rattle.program.specs.Shapes.{with, met, mets, number, shapeOf, distinct, sh
 use Rattle.program.specs.Within.{Each, more, WithinClause, WithinLimits}
 use Rattle.program.proofs.ShapeLaws.{nth-member, place-nth, met-has}
 use Rattle.program.proofs.OwnShape.{upTo, length-upTo, upTo-has}
+use Rattle.program.proofs.Nths.{nth-below}
 use Rattle.table.specs.Table.{Distinct}
 use Rattle.table.specs.Keys.{Few}
-use Rattle.table.proofs.Lists.{has-with, has-map, nth-below}
+use Rattle.table.proofs.Lists.{has-with, has-map}
 use Rattle.table.proofs.Distinct.{distinct-length}
 
 pub each-member : {A : Type 0} {P : A → Type 0} {l : List A} {a : A} → Each P l → List·Memᴰ a l → P a

@@ -2,9 +2,9 @@
 use native.Mathlib.Omega.{arith}
 use Rattle.program.specs.Program.{bodies}
 use Rattle.directory.specs.Said.{said}
-use Rattle.directory.proofs.Cuts.{nth-at}
 use Rattle.directory.proofs.PlacedLaws.{bodies-at-most, body-at}
 use borrow.Author.Needs.{needs}
+use Rattle.program.proofs.Nths.{below-nth}
 use Rattle.directory.proofs.lists.body_variables.Statement.{statement}
 use Rattle.directory.proofs.lists.body_variables.Tie as tie
 
@@ -33,7 +33,7 @@ wide-requires-2 : tie.Need-wide-requires-2
 wide-requires-2 c κs = search needs
 
 variables-requires : tie.Need-variables-requires
-variables-requires c κs = let s = c .before .before .before .before .before .before in let W = s .args .words .now in rw (c .before .before .wide .ensures .0, c .wide2 .ensures .0) (body-at W (s .pre .0) _ (s .pre .1) (nth-at (bodies (said W .clauses)) (s .args .j) (s .pre .2) .1))
+variables-requires c κs = let s = c .before .before .before .before .before .before in let W = s .args .words .now in rw (c .before .before .wide .ensures .0, c .wide2 .ensures .0) (body-at W (s .pre .0) _ (s .pre .1) (below-nth (bodies (said W .clauses)) (s .args .j) (s .pre .2) .1))
 
 returns : tie.Need-returns
 returns c = let s = c .before .before .before .before .before .before .before in let W = s .args .words .now in λ a q. (rw (c .before .before .before .wide .ensures .0, c .before .wide2 .ensures .0) at (c .variables .ensures)) (body-at W (s .pre .0) _ (s .pre .1) q)

@@ -9,11 +9,11 @@ use lib.ListN.{length, take}
 use Rattle.terms.specs.Mask.{Marks}
 use Rattle.program.specs.Program.{Nth, Clause, bodies}
 use Rattle.program.specs.Shapes.{In}
+use Rattle.program.proofs.Nths.{below-nth}
 use Rattle.directory.specs.Layout.{bodyList}
 use Rattle.directory.specs.Said.{said}
 use Rattle.directory.specs.Walked.{Placed}
 use Rattle.directory.specs.Lists.{firstOf, Listed-from}
-use Rattle.directory.proofs.Cuts.{nth-at}
 use Rattle.directory.proofs.AcceptedWords.{said-within}
 use Rattle.directory.proofs.BodyNumbers.{first-next, first-within}
 use Rattle.directory.proofs.PlacedLaws.{bodies-at-most, placed-set, first-is, first-next-is}
@@ -55,7 +55,7 @@ wide-requires-2 : tie.Need-wide-requires-2 Inv-loop μ-loop
 wide-requires-2 c κs = search needs
 
 sub-m : tie.Need-sub-m Inv-loop μ-loop
-sub-m c = let s = c .before .before .before .before .before .before in let W = s .args .words .now in let a = s .pre .0 in let k = s .args .k in omega (arith, c .before .before .wide .ensures .0, c .wide2 .ensures .0, first-is W a _ (s .pre .1) k (s .pre .2), first-next-is W a _ (s .pre .1) k (s .pre .2), first-next (said W) (nth-at (said W .clauses) k (s .pre .2) .1))
+sub-m c = let s = c .before .before .before .before .before .before in let W = s .args .words .now in let a = s .pre .0 in let k = s .args .k in omega (arith, c .before .before .wide .ensures .0, c .wide2 .ensures .0, first-is W a _ (s .pre .1) k (s .pre .2), first-next-is W a _ (s .pre .1) k (s .pre .2), first-next (said W) (below-nth (said W .clauses) k (s .pre .2) .1))
 
 head-variables-requires : tie.Need-head-variables-requires Inv-loop μ-loop
 head-variables-requires c κs = let s = c .before .before .before .before .before .before .before in (s .pre .0, s .pre .1, s .pre .2)
@@ -65,7 +65,7 @@ loop-holds c = let s = c .before .before .before .before .before .before .before
     let e : c .before .before .before .before .wide .result ≡ firstOf (said W) k = c .before .before .before .before .wide .ensures .0 ∙ first-is W a _ (s .pre .1) k (s .pre .2) in
     let e′ : c .before .before .wide2 .result ≡ firstOf (said W) (k + 1) = c .before .before .wide2 .ensures .0 ∙ first-next-is W a _ (s .pre .1) k (s .pre .2) in (
       e,
-      omega (arith, first-within (said W) (k + 1) (omega (arith, s .pre .2)), first-next (said W) (nth-at (said W .clauses) k (s .pre .2) .1)),
+      omega (arith, first-within (said W) (k + 1) (omega (arith, s .pre .2)), first-next (said W) (below-nth (said W .clauses) k (s .pre .2) .1)),
       s .pre .1,
       (λ d q.
           let m : c .before .before .wide2 .result - c .before .before .before .before .wide .result ≡ length (d .body) = omega (arith, first-next (said W) q) in

@@ -5,10 +5,10 @@ use native.Mathlib.Omega.{arith}
 use borrow.Author.Needs.{needs}
 use mathlib.Core.Path.{_≡_, sym, _∙_}
 use lib.ListN.{length}
+use Rattle.program.proofs.Nths.{below-nth}
 use Rattle.directory.specs.Said.{said}
 use Rattle.directory.specs.Walked.{Placed}
 use Rattle.directory.specs.Lists.{Lists}
-use Rattle.directory.proofs.Cuts.{nth-at}
 use Rattle.directory.proofs.AcceptedWords.{said-within}
 use Rattle.directory.proofs.ListWalk.{no-lists, later-own, later-placed, lists-more}
 use Rattle.directory.proofs.lists.lists.Statement.{statement}
@@ -35,7 +35,7 @@ later-requires c κs = let s = c .before .before .before .before .before .before
 earlier-requires : tie.Need-earlier-requires Inv-loop μ-loop
 earlier-requires c κs = let s = c .before .before .before .before .before .before .before .before .before .before .before in let W = s .args .words .now in let inv = c .before .before .before .before .before .before .loop .inv in
     let less : c .before .before .before .before .before .before .loop .k < length (said W .clauses) = omega (arith, inv .0, c .before .before .before .before .before .loop-test .taken) in
-    let d = nth-at (said W .clauses) (c .before .before .before .before .before .before .loop .k) less in
+    let d = below-nth (said W .clauses) (c .before .before .before .before .before .before .loop .k) less in
     (s .pre .0, later-placed W (s .pre .0) (c .before .before .before .before .before .before .loop .k) (d .0) _ _ 0 (c .before .before .before .later .ensures (d .0) (d .1)) (inv .2), less, λ e q. later-own _ _ _ _ _ (c .before .before .before .later .ensures e q))
 
 add-k : tie.Need-add-k Inv-loop μ-loop
@@ -47,7 +47,7 @@ loop-less c = omega (arith, c .before .before .before .before .before .before .b
 loop-again : tie.Need-loop-again Inv-loop μ-loop
 loop-again c = let s = c .before .before .before .before .before .before .before .before .before .before .before .before .before .before in let W = s .args .words .now in let inv = c .before .before .before .before .before .before .before .before .before .loop .inv in let k = c .before .before .before .before .before .before .before .before .before .loop .k in
     let less : k < length (said W .clauses) = omega (arith, inv .0, c .before .before .before .before .before .before .before .before .loop-test .taken) in
-    let d = nth-at (said W .clauses) k less in
+    let d = below-nth (said W .clauses) k less in
     let l = c .before .before .before .before .before .before .later .ensures (d .0) (d .1) in
     let h = c .before .before .earlier .ensures (d .0) (d .1) in
     (inv .0, omega (arith, c .before .before .before .before .before .before .before .before .loop-test .taken), later-placed W (s .pre .0) k (d .0) _ _ _ (h .rest) (later-placed W (s .pre .0) k (d .0) _ _ 0 l (inv .2)), lists-more (said W) k (d .0) (d .1) _ _ _ _ (inv .3) l h)
