@@ -4,7 +4,6 @@ pub mod AtomsFrom
 pub mod BodyWalk
 pub mod Numbering
 pub mod TermCells
-pub mod Counting
 pub mod ShapeVariables
 pub mod ClauseWalk
 pub mod ClausesWalk

@@ -16,7 +16,7 @@ use Rattle.program.proofs.ShapeLaws.{place-nth, met-has, map-has}
 use Rattle.program.proofs.OwnShape.{with-old, with-new, place-old, place-new, upTo, length-upTo, has-upTo, upTo-has}
 use Rattle.program.proofs.GoalShape.{meet-with}
 use Rattle.program.proofs.Nths.{nth-below}
-use Rattle.directory.proofs.Counting.{all-below-count}
+use Rattle.program.proofs.Counting.{all-below-count}
 
 -- whether a number is in a list
 member-decided : (v : ℕ) (l : List ℕ) → Dec (List·Memᴰ v l)

@@ -2,6 +2,7 @@
 pub mod Samples
 pub mod ListLaws
 pub mod Nths
+pub mod Counting
 pub mod ShapeLaws
 pub mod Parts
 pub mod Taking

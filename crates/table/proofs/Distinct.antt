@@ -1,33 +1,13 @@
--- Lists without repetition: taking one element out, counting, one list behind another.
-use Prim.Native.Nat.{suc, _≤_}
+-- Lists without repetition: counting, one list behind another.
+use Prim.Native.Nat.{_≤_}
 use native.Mathlib.Omega.{arith}
-use mathlib.Core.Path.{_≡_, refl, sym, _∙_}
-use mathlib.Core.Logic.{_⊎_, inl, inr, ⊎-elim}
-use mathlib.Core.List.{List, [], _∷_, _++_, map, List·Memᴰ, List·Memᴰ·head, List·Memᴰ·tail, List·Memᴰ·cases-cons, List·Memᴰ·append-cases, Memᴰ·cast}
+use mathlib.Core.Path.{_≡_, refl, sym}
+use mathlib.Core.Logic.{⊎-elim}
+use mathlib.Core.List.{List, [], _∷_, _++_, map, List·Memᴰ, List·Memᴰ·head, List·Memᴰ·tail, List·Memᴰ·append-cases, Memᴰ·cast}
 use lib.ListN.{length}
+use Rattle.program.proofs.Counting.{without}
 use Rattle.table.specs.Table.{Distinct}
 use Rattle.table.proofs.Lists.{has-map}
-
--- a list that has a, without it: one shorter, and it has every other element that it had
-pub record Without {A : Type 0} (a : A) (l : List A) : Type 0 where
-  pub rest : List A
-  pub shorter : length l ≡ suc (length rest)
-  pub has : (b : A) → (b ≡ a → ⊥) → List·Memᴰ b l → List·Memᴰ b rest
-
-pub without : {A : Type 0} (a : A) (l : List A) → List·Memᴰ a l → Without a l
-without {A} a (c ∷ l) (List·Memᴰ·head e) = record { rest = l; shorter = refl; has = λ b ne h. other b ne (List·Memᴰ·cases-cons h) }
-  where
-    other : (b : A) → (b ≡ a → ⊥) → (b ≡ c) ⊎ List·Memᴰ b l → List·Memᴰ b l
-    other b ne (inl d) = absurd (ne (d ∙ sym e))
-    other b ne (inr h) = h
-without {A} a (c ∷ l) (List·Memᴰ·tail h) = behind (without a l h)
-  where
-    other : (w : Without a l) (b : A) → (b ≡ a → ⊥) → (b ≡ c) ⊎ List·Memᴰ b l → List·Memᴰ b (c ∷ w .rest)
-    other w b ne (inl d) = List·Memᴰ·head d
-    other w b ne (inr h) = List·Memᴰ·tail (w .has b ne h)
-
-    behind : Without a l → Without a (c ∷ l)
-    behind w = record { rest = c ∷ w .rest; shorter = rw (w .shorter); has = λ b ne h. other w b ne (List·Memᴰ·cases-cons h) }
 
 -- distinct elements that are all in another list are no more than its elements
 pub distinct-length : {A : Type 0} (l m : List A) → Distinct l → ((a : A) → List·Memᴰ a l → List·Memᴰ a m) → length l ≤ length m

@@ -8,18 +8,10 @@ use lib.ListN.{length, length-map}
 use Rattle.marks.specs.Domain.{Domain}
 use Rattle.program.specs.Program.{Program}
 use Rattle.program.proofs.ShapeLaws.{map-has}
+use Rattle.program.proofs.Counting.{all-below-count}
 use Rattle.table.specs.Rules.{Row}
 use Rattle.table.specs.Rounds.{At, First}
 use Rattle.table.proofs.RoundLaws.{first-before}
-use Rattle.table.proofs.Distinct.{without}
-
--- a list that has every number below n has n elements or more
-pub all-below-count : (n : ℕ) (l : List ℕ) → ((m : ℕ) → m < n → List·Memᴰ m l) → n ≤ length l
-all-below-count zero l h = omega arith
-all-below-count (suc n) l h =
-    let w = without n l (h n (omega arith)) in
-    let c = all-below-count n (w .rest) (λ m less. w .has m (λ e. absurd (omega arith)) (h m (omega arith))) in
-    omega (arith, w .shorter)
 
 module _ (D : Domain) (p : Program) (goal : D .Mark) (decide : (k : ℕ) (row : Row (D .Mark)) → Dec (At D p goal k row)) where
   -- each round up to a row's first has a row that is first there
