@@ -3,41 +3,27 @@ use Prim.Native.Nat.{ℕ, _≤_, _<_}
 use native.Mathlib.Omega.{arith}
 use native.Mathlib.Decide.{ℕ-discrete, decLt}
 use mathlib.Core.Path.{_≡_, refl, sym, ap, _∙_}
-use mathlib.Core.Logic.{_⊎_, inl, inr, _↔_}
-use mathlib.Core.List.{List, [], _∷_, _++_, map, List·Memᴰ, List·Memᴰ·head, List·Memᴰ·tail, List·Memᴰ·cases-cons, List·Memᴰ·append-cases, List·Memᴰ·eq-of-singleton, Memᴰ·append-left, Memᴰ·append-right}
+use mathlib.Core.Logic.{_↔_}
+use mathlib.Core.List.{List, [], _∷_, _++_, map, List·Memᴰ, List·Memᴰ·head, Memᴰ·append-left, Memᴰ·append-right}
 use lib.ListN.{length, length-append, length-map}
-use Rattle.terms.specs.Term.{Term, Terms, var, app, nil, cons, Occ, Occs}
+use Rattle.terms.specs.Term.{Term, Terms, var, app, nil, cons, Occ}
 use Rattle.terms.specs.Cells.{variables, Atom}
 use Rattle.terms.proofs.Substs.{occ-sub, sub-occ}
 use Rattle.terms.proofs.Binding.{atom-variables}
 use Rattle.program.specs.Shapes.{place, with, met, mets, number, shapeOf}
 use Rattle.program.specs.Within.{after, afters, Numbered, Numbereds}
-use Rattle.program.proofs.ShapeLaws.{place-nth, met-has, map-has}
+use Rattle.program.proofs.ShapeLaws.{place-nth, met-has, map-has, member-decided, met-occurs}
 use Rattle.program.proofs.OwnShape.{with-old, with-new, place-old, place-new, upTo, length-upTo, has-upTo, upTo-has}
 use Rattle.program.proofs.GoalShape.{meet-with}
 use Rattle.program.proofs.Nths.{nth-below}
 use Rattle.program.proofs.Counting.{all-below-count}
-
--- whether a number is in a list
-member-decided : (v : ℕ) (l : List ℕ) → Dec (List·Memᴰ v l)
-member-decided v [] = no (λ m. elim m [ ])
-member-decided v (b ∷ l) = go (ℕ-discrete v b) (member-decided v l)
-  where
-    neither : (v ≡ b → ⊥) → (List·Memᴰ v l → ⊥) → (v ≡ b) ⊎ List·Memᴰ v l → ⊥
-    neither ne nm (inl e) = ne e
-    neither ne nm (inr m) = nm m
-
-    go : Dec (v ≡ b) → Dec (List·Memᴰ v l) → Dec (List·Memᴰ v (b ∷ l))
-    go (yes e) d = yes (List·Memᴰ·head e)
-    go (no ne) (yes m) = yes (List·Memᴰ·tail m)
-    go (no ne) (no nm) = no (λ m. neither ne nm (List·Memᴰ·cases-cons m))
 
 -- each number below the length is the place of an element
 abbrev pub Onto : List ℕ → Type 0
 Onto l = (n : ℕ) → n < length l → (x : ℕ) × List·Memᴰ x l × (place ℕ-discrete x l ≡ n)
 
 with-onto : (l : List ℕ) (v : ℕ) → Onto l → Onto (with ℕ-discrete l v)
-with-onto l v o = by (member-decided v l)
+with-onto l v o = by (member-decided ℕ-discrete v l)
   where
     last : (List·Memᴰ v l → ⊥) → (n : ℕ) → n < length (l ++ (v ∷ [])) → Dec (n < length l)
         → (x : ℕ) × List·Memᴰ x (l ++ (v ∷ [])) × (place ℕ-discrete x (l ++ (v ∷ [])) ≡ n)
@@ -58,42 +44,6 @@ mutual
   mets-onto : (ts : Terms) (seen : List ℕ) → Onto seen → Onto (mets seen ts)
   mets-onto nil seen o = o
   mets-onto (cons t ts) seen o = mets-onto ts (met seen t) (met-onto t seen o)
-
--- a variable that is met occurs, or was met before
-with-from : (l : List ℕ) (v x : ℕ) → List·Memᴰ x (with ℕ-discrete l v) → List·Memᴰ x l ⊎ (x ≡ v)
-with-from l v x m = by (member-decided v l)
-  where
-    new : List·Memᴰ x l ⊎ List·Memᴰ x (v ∷ []) → List·Memᴰ x l ⊎ (x ≡ v)
-    new (inl q) = inl q
-    new (inr q) = inr (List·Memᴰ·eq-of-singleton q)
-
-    by : Dec (List·Memᴰ v l) → List·Memᴰ x l ⊎ (x ≡ v)
-    by (yes q) = inl (rw (with-old ℕ-discrete l v q) at m)
-    by (no nm) = new (List·Memᴰ·append-cases l (rw (with-new ℕ-discrete l v nm) at m))
-
-mutual
-  met-from : (t : Term) (seen : List ℕ) (x : ℕ) → List·Memᴰ x (met seen t) → List·Memᴰ x seen ⊎ Occ x t
-  met-from (var v) seen x m = with-from seen v x m
-  met-from (app f ts) seen x m = mets-from ts seen x m
-
-  mets-from : (ts : Terms) (seen : List ℕ) (x : ℕ) → List·Memᴰ x (mets seen ts) → List·Memᴰ x seen ⊎ Occs x ts
-  mets-from nil seen x m = inl m
-  mets-from (cons t ts) seen x m = by (mets-from ts (met seen t) x m) (λ q. met-from t seen x q)
-    where
-      first : List·Memᴰ x seen ⊎ Occ x t → List·Memᴰ x seen ⊎ Occs x (cons t ts)
-      first (inl q) = inl q
-      first (inr o) = inr (inl o)
-
-      by : List·Memᴰ x (met seen t) ⊎ Occs x ts → (List·Memᴰ x (met seen t) → List·Memᴰ x seen ⊎ Occ x t) → List·Memᴰ x seen ⊎ Occs x (cons t ts)
-      by (inl q) f = first (f q)
-      by (inr o) f = inr (inr o)
-
-pub met-occurs : (t : Term) (x : ℕ) → List·Memᴰ x (met [] t) → Occ x t
-met-occurs t x m = by (met-from t [] x m)
-  where
-    by : List·Memᴰ x [] ⊎ Occ x t → Occ x t
-    by (inl q) = elim q [ ]
-    by (inr o) = o
 
 -- the variables of a shape are the numbers below the count of the atom's variables
 pub shape-variables : (A : Term) (v : ℕ) → Occ v (shapeOf A) ↔ (v < length (met [] A))

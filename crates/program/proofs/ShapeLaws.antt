@@ -55,6 +55,42 @@ module _ {A : Type 0} (same : Discrete A) where
       at below (yes e) = List·Memᴰ·head e
       at below (no _) = List·Memᴰ·tail below
 
+  -- and nothing but that one is new
+  pub has-with : (l : List A) (a b : A) → List·Memᴰ b (with same l a) → List·Memᴰ b l ⊎ (b ≡ a)
+  has-with [] a b m = first (List·Memᴰ·cases-cons m)
+    where
+      first : (b ≡ a) ⊎ List·Memᴰ b [] → List·Memᴰ b [] ⊎ (b ≡ a)
+      first (inl e) = inr e
+      first (inr m′) = inl m′
+  has-with (c ∷ l) a b m = go (has-with l a b) (same a c) m
+    where
+      keep : List·Memᴰ b l ⊎ (b ≡ a) → List·Memᴰ b (c ∷ l) ⊎ (b ≡ a)
+      keep (inl m′) = inl (List·Memᴰ·tail m′)
+      keep (inr e) = inr e
+
+      split : (List·Memᴰ b (with same l a) → List·Memᴰ b l ⊎ (b ≡ a)) → (b ≡ c) ⊎ List·Memᴰ b (with same l a) → List·Memᴰ b (c ∷ l) ⊎ (b ≡ a)
+      split below (inl e) = inl (List·Memᴰ·head e)
+      split below (inr m′) = keep (below m′)
+
+      go : (List·Memᴰ b (with same l a) → List·Memᴰ b l ⊎ (b ≡ a)) → (d : Dec (a ≡ c)) → List·Memᴰ b (elim d as (λ _. List A) [ yes _ ↦ c ∷ l | no _ ↦ c ∷ with same l a ])
+          → List·Memᴰ b (c ∷ l) ⊎ (b ≡ a)
+      go below (yes _) m′ = inl m′
+      go below (no _) m′ = split below (List·Memᴰ·cases-cons m′)
+
+  -- whether a list has an element
+  unfoldable pub member-decided : (a : A) (l : List A) → Dec (List·Memᴰ a l)
+  member-decided a [] = no (λ m. elim m [ ])
+  member-decided a (b ∷ l) = go (same a b) (member-decided a l)
+    where
+      neither : (a ≡ b → ⊥) → (List·Memᴰ a l → ⊥) → (a ≡ b) ⊎ List·Memᴰ a l → ⊥
+      neither ne nm (inl e) = ne e
+      neither ne nm (inr m) = nm m
+
+      go : Dec (a ≡ b) → Dec (List·Memᴰ a l) → Dec (List·Memᴰ a (b ∷ l))
+      go (yes e) d = yes (List·Memᴰ·head e)
+      go (no ne) (yes m) = yes (List·Memᴰ·tail m)
+      go (no ne) (no nm) = no (λ m. neither ne nm (List·Memᴰ·cases-cons m))
+
 -- a variable met before is still there
 mutual
   pub met-keeps : (t : Term) (seen : List ℕ) (v : ℕ) → List·Memᴰ v seen → List·Memᴰ v (met seen t)
@@ -75,6 +111,31 @@ mutual
   mets-has nil seen v o = absurd o
   mets-has (cons t ts) seen v (inl o) = mets-keeps ts (met seen t) v (met-has t seen v o)
   mets-has (cons t ts) seen v (inr o) = mets-has ts (met seen t) v o
+
+-- and a variable that is met occurs, or was met before
+mutual
+  pub has-met : (t : Term) (seen : List ℕ) (v : ℕ) → List·Memᴰ v (met seen t) → List·Memᴰ v seen ⊎ Occ v t
+  has-met (var x) seen v m = has-with ℕ-discrete seen x v m
+  has-met (app f ts) seen v m = has-mets ts seen v m
+
+  pub has-mets : (ts : Terms) (seen : List ℕ) (v : ℕ) → List·Memᴰ v (mets seen ts) → List·Memᴰ v seen ⊎ Occs v ts
+  has-mets nil seen v m = inl m
+  has-mets (cons t ts) seen v m = at (has-mets ts (met seen t) v m) (λ m′. has-met t seen v m′)
+    where
+      other : List·Memᴰ v seen ⊎ Occ v t → List·Memᴰ v seen ⊎ (Occ v t ⊎ Occs v ts)
+      other (inl m′) = inl m′
+      other (inr o) = inr (inl o)
+
+      at : List·Memᴰ v (met seen t) ⊎ Occs v ts → (List·Memᴰ v (met seen t) → List·Memᴰ v seen ⊎ Occ v t) → List·Memᴰ v seen ⊎ (Occ v t ⊎ Occs v ts)
+      at (inl m′) before = other (before m′)
+      at (inr o) before = inr (inr o)
+
+pub met-occurs : (t : Term) (x : ℕ) → List·Memᴰ x (met [] t) → Occ x t
+met-occurs t x m = by (has-met t [] x m)
+  where
+    by : List·Memᴰ x [] ⊎ Occ x t → Occ x t
+    by (inl q) = elim q [ ]
+    by (inr o) = o
 
 -- a term for each variable of the atom, by the shape's numbers
 abbrev pub numbered : Term → Subst → Subst

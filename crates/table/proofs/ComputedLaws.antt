@@ -11,11 +11,11 @@ use Rattle.terms.proofs.Variables.{decided-for}
 use Rattle.marks.specs.Domain.{Domain}
 use Rattle.program.specs.Program.{Nth, Clause, Program}
 use Rattle.program.specs.Shapes.{shapes, shapeNumber, number, Listed}
-use Rattle.program.proofs.ShapeLaws.{map-has}
+use Rattle.program.proofs.ShapeLaws.{map-has, member-decided}
 use Rattle.program.proofs.ListLaws.{listed-decided}
 use Rattle.table.specs.Rules.{Row, call, cont, solution, Row-discrete, Reached, first, next, Gives, calls, conts, solves}
 use Rattle.table.specs.Rounds.{At, First, Least}
-use Rattle.table.proofs.Lists.{each, each-has, has-each, has-map, at, at-has, has-at, places, places-has, behind-keeps, behind-has, has-behind, member-decided}
+use Rattle.table.proofs.Lists.{each, each-has, has-each, has-map, at, at-has, has-at, places, places-has, behind-keeps, behind-has, has-behind}
 use Rattle.table.proofs.Computed.{Lists, onCall, onCont, onSolution, Arrival, firsts, nexts, arrivals, goes, ends, leads, given, grown, rowsAt}
 use Rattle.table.proofs.RuleLaws.{Within, gives-within}
 use Rattle.table.proofs.RoundLaws.{rounds-grow, least-at}

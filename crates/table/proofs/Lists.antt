@@ -2,10 +2,12 @@
 use Prim.Native.Nat.{ℕ, zero, suc}
 use mathlib.Core.Path.{_≡_, refl}
 use mathlib.Core.Logic.{_⊎_, inl, inr}
-use mathlib.Core.List.{List, [], _∷_, _++_, map, List·Memᴰ, List·Memᴰ·head, List·Memᴰ·tail, List·Memᴰ·cases-cons, List·Memᴰ·append-cases, Memᴰ·append-left, Memᴰ·append-right}
+use mathlib.Core.List.{List, [], _∷_, _++_, map, List·Memᴰ, List·Memᴰ·head, List·Memᴰ·tail, List·Memᴰ·append-cases, Memᴰ·append-left, Memᴰ·append-right}
 use Rattle.program.specs.Program.{Nth, here, there}
 use Rattle.program.specs.Shapes.{with}
-use Rattle.program.proofs.ShapeLaws.{map-has, with-keeps, with-has}
+use Rattle.program.proofs.ShapeLaws.{map-has, with-keeps, with-has, has-with}
+-- what crates above cite from here
+unfoldable pub use Rattle.program.proofs.ShapeLaws.{member-decided}
 
 -- what f lists for each element, one after the other
 abbrev pub each : {A B : Type 0} → List A → (A → List B) → List B
@@ -65,27 +67,6 @@ module _ {A : Type 0} (same : Discrete A) where
   behind-has (b ∷ new) l a (List·Memᴰ·head e) = behind-keeps new (with same l b) a (rw e (with-has same l b))
   behind-has (b ∷ new) l a (List·Memᴰ·tail m) = behind-has new (with same l b) a m
 
-  pub has-with : (l : List A) (a b : A) → List·Memᴰ b (with same l a) → List·Memᴰ b l ⊎ (b ≡ a)
-  has-with [] a b m = first (List·Memᴰ·cases-cons m)
-    where
-      first : (b ≡ a) ⊎ List·Memᴰ b [] → List·Memᴰ b [] ⊎ (b ≡ a)
-      first (inl e) = inr e
-      first (inr m′) = inl m′
-  has-with (c ∷ l) a b m = go (has-with l a b) (same a c) m
-    where
-      keep : List·Memᴰ b l ⊎ (b ≡ a) → List·Memᴰ b (c ∷ l) ⊎ (b ≡ a)
-      keep (inl m′) = inl (List·Memᴰ·tail m′)
-      keep (inr e) = inr e
-
-      split : (List·Memᴰ b (with same l a) → List·Memᴰ b l ⊎ (b ≡ a)) → (b ≡ c) ⊎ List·Memᴰ b (with same l a) → List·Memᴰ b (c ∷ l) ⊎ (b ≡ a)
-      split below (inl e) = inl (List·Memᴰ·head e)
-      split below (inr m′) = keep (below m′)
-
-      go : (List·Memᴰ b (with same l a) → List·Memᴰ b l ⊎ (b ≡ a)) → (d : Dec (a ≡ c)) → List·Memᴰ b (elim d as (λ _. List A) [ yes _ ↦ c ∷ l | no _ ↦ c ∷ with same l a ])
-          → List·Memᴰ b (c ∷ l) ⊎ (b ≡ a)
-      go below (yes _) m′ = inl m′
-      go below (no _) m′ = split below (List·Memᴰ·cases-cons m′)
-
   pub has-behind : (new l : List A) (a : A) → List·Memᴰ a (behind same l new) → List·Memᴰ a l ⊎ List·Memᴰ a new
   has-behind [] l a m = inl m
   has-behind (b ∷ new) l a m = go (has-behind new (with same l b) a m)
@@ -95,19 +76,5 @@ module _ {A : Type 0} (same : Discrete A) where
       last (inr e) = inr (List·Memᴰ·head e)
 
       go : List·Memᴰ a (with same l b) ⊎ List·Memᴰ a new → List·Memᴰ a l ⊎ List·Memᴰ a (b ∷ new)
-      go (inl m′) = last (has-with l b a m′)
+      go (inl m′) = last (has-with same l b a m′)
       go (inr m′) = inr (List·Memᴰ·tail m′)
-
-  -- whether a list has an element
-  unfoldable pub member-decided : (a : A) (l : List A) → Dec (List·Memᴰ a l)
-  member-decided a [] = no (λ m. elim m [ ])
-  member-decided a (b ∷ l) = go (same a b) (member-decided a l)
-    where
-      neither : (a ≡ b → ⊥) → (List·Memᴰ a l → ⊥) → (a ≡ b) ⊎ List·Memᴰ a l → ⊥
-      neither ne nm (inl e) = ne e
-      neither ne nm (inr m) = nm m
-
-      go : Dec (a ≡ b) → Dec (List·Memᴰ a l) → Dec (List·Memᴰ a (b ∷ l))
-      go (yes e) d = yes (List·Memᴰ·head e)
-      go (no ne) (yes m) = yes (List·Memᴰ·tail m)
-      go (no ne) (no nm) = no (λ m. neither ne nm (List·Memᴰ·cases-cons m))

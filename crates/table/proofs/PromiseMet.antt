@@ -11,13 +11,13 @@ use Rattle.program.specs.Program.{Program}
 use Rattle.program.specs.Faults.{Found, fault, sound, faults}
 use Rattle.program.specs.Shapes.{with}
 use Rattle.program.specs.declared.reply.Reply.{Reply}
-use Rattle.program.proofs.ShapeLaws.{map-has}
+use Rattle.program.proofs.ShapeLaws.{map-has, member-decided}
 use Rattle.program.proofs.OwnShape.{with-old, with-new}
 use Rattle.table.specs.Rules.{Row}
 use Rattle.table.specs.Rounds.{At, First}
 use Rattle.table.specs.Table.{Entry, Distinct, roomIn, TableOf, MoreThan, Promise, faulty, listed, full}
 use Rattle.table.specs.RoundKeys.{Rounded}
-use Rattle.table.proofs.Lists.{behind, member-decided, has-map}
+use Rattle.table.proofs.Lists.{behind, has-map}
 use Rattle.table.proofs.RuleLaws.{Within}
 use Rattle.table.proofs.RoundLaws.{rounds-grow, first-once}
 use Rattle.table.proofs.Computed.{given, rowsAt}

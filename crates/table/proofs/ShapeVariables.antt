@@ -6,7 +6,7 @@ use mathlib.Core.Path.{_≡_, sym}
 use mathlib.Core.Logic.{_⊎_, inl, inr, ⊎-elim}
 use mathlib.Core.List.{List, [], _∷_, map, List·Memᴰ, List·Memᴰ·head, List·Memᴰ·tail, List·Memᴰ·cases-cons, List·Memᴰ·append-cases, List·Memᴰ·not-nil}
 use lib.ListN.{length, take, length-append, length-map}
-use Rattle.terms.specs.Term.{Term, Terms, sameTerm, var, app, nil, cons, Occ, Occs}
+use Rattle.terms.specs.Term.{Term, Terms, sameTerm, var, app, nil, cons, Occ}
 use Rattle.terms.specs.Cells.{variables, Atom}
 use Rattle.terms.proofs.Substs.{occ-sub}
 use Rattle.terms.proofs.Binding.{atom-variables}
@@ -14,12 +14,12 @@ use Rattle.program.specs.Limits.{maxBody}
 use Rattle.program.specs.Program.{Nth, Clause, Program, bodies}
 use Rattle.program.specs.Shapes.{with, met, mets, number, shapeOf, distinct, shapes, In}
 use Rattle.program.specs.Within.{Each, more, WithinClause, WithinLimits}
-use Rattle.program.proofs.ShapeLaws.{nth-member, place-nth, met-has}
+use Rattle.program.proofs.ShapeLaws.{nth-member, place-nth, met-has, has-with, met-occurs}
 use Rattle.program.proofs.OwnShape.{upTo, length-upTo, upTo-has}
 use Rattle.program.proofs.Nths.{nth-below}
 use Rattle.table.specs.Table.{Distinct}
 use Rattle.table.specs.Keys.{Few}
-use Rattle.table.proofs.Lists.{has-with, has-map}
+use Rattle.table.proofs.Lists.{has-map}
 use Rattle.table.proofs.Distinct.{distinct-length}
 
 pub each-member : {A : Type 0} {P : A → Type 0} {l : List A} {a : A} → Each P l → List·Memᴰ a l → P a
@@ -36,7 +36,7 @@ in-take (suc i) [] v o = absurd o
 in-take (suc i) (t ∷ ts) v (inl o) = inl o
 in-take (suc i) (t ∷ ts) v (inr o) = inr (in-take i ts v o)
 
--- met variables are each met once, and are the term's
+-- met variables are each met once
 pub with-distinct : {A : Type 0} (same : Discrete A) (l : List A) (a : A) → Distinct l → Distinct (with same l a)
 with-distinct same [] a d = (List·Memᴰ·not-nil, tt)
 with-distinct {A} same (b ∷ l) a (nb, d) = at (same a b) (with-distinct same l a d)
@@ -54,27 +54,10 @@ mutual
   mets-distinct nil seen d = d
   mets-distinct (cons t ts) seen d = mets-distinct ts (met seen t) (met-distinct t seen d)
 
-mutual
-  pub has-met : (t : Term) (seen : List ℕ) (v : ℕ) → List·Memᴰ v (met seen t) → List·Memᴰ v seen ⊎ Occ v t
-  has-met (var x) seen v m = has-with ℕ-discrete seen x v m
-  has-met (app f ts) seen v m = has-mets ts seen v m
-
-  pub has-mets : (ts : Terms) (seen : List ℕ) (v : ℕ) → List·Memᴰ v (mets seen ts) → List·Memᴰ v seen ⊎ Occs v ts
-  has-mets nil seen v m = inl m
-  has-mets (cons t ts) seen v m = at (has-mets ts (met seen t) v m) (λ m′. has-met t seen v m′)
-    where
-      other : List·Memᴰ v seen ⊎ Occ v t → List·Memᴰ v seen ⊎ (Occ v t ⊎ Occs v ts)
-      other (inl m′) = inl m′
-      other (inr o) = inr (inl o)
-
-      at : List·Memᴰ v (met seen t) ⊎ Occs v ts → (List·Memᴰ v (met seen t) → List·Memᴰ v seen ⊎ Occ v t) → List·Memᴰ v seen ⊎ (Occ v t ⊎ Occs v ts)
-      at (inl m′) before = other (before m′)
-      at (inr o) before = inr (inr o)
-
 -- a shape's variables are below a bound of the atom's
 pub number-below : (t : Term) (n : ℕ) → ((v : ℕ) → Occ v t → v < n) → (v : ℕ) → Occ v t → number t v < n
 number-below t n h v o =
-    let few = distinct-length (met [] t) (upTo n) (met-distinct t [] tt) (λ w m. upTo-has n w (h w (⊎-elim (λ (m′ : _). absurd (List·Memᴰ·not-nil m′)) (λ (o′ : _). o′) (has-met t [] w m)))) in
+    let few = distinct-length (met [] t) (upTo n) (met-distinct t [] tt) (λ w m. upTo-has n w (h w (met-occurs t w m))) in
     omega (arith, nth-below (place-nth ℕ-discrete v (met [] t) (met-has t [] v o)), length-upTo n)
 
 pub shape-below : (t : Term) (n : ℕ) → ((v : ℕ) → Occ v t → v < n) → (v : ℕ) → Occ v (shapeOf t) → v < n

@@ -14,9 +14,9 @@ use Rattle.program.specs.Program.{Program}
 use Rattle.program.specs.Faults.{clause, goal, written, declared, whole, sound, faults}
 use Rattle.program.proofs.ListLaws.{listed-decided}
 use Rattle.program.proofs.Samples.{empty-slice, least-program, legs as legs-words, legs-read}
+use Rattle.program.proofs.ShapeLaws.{member-decided}
 use Rattle.table.specs.Rules.{Row, call, cont, solution}
 use Rattle.table.specs.Table.{Entry, TableOf, Promise, faulty, listed, full}
-use Rattle.table.proofs.Lists.{member-decided}
 use Rattle.table.proofs.Computed.{rowsAt}
 use Rattle.table.proofs.ModesComputed.{modes-lists}
 use Rattle.table.proofs.Samples.{legs, legs-round-3, legs-round-4, late, late-round-4, late-round-5}
