@@ -8,9 +8,10 @@ use Rattle.terms.specs.Term.{Term, Terms}
 use Rattle.terms.specs.Cells.{enc, encs, atomCells, Run}
 use Rattle.terms.specs.Walk.{cellsOf}
 use Rattle.terms.proofs.Runs.{run-terms}
+use Rattle.terms.proofs.Places.{part-from}
 use Rattle.directory.specs.Directory.{Stands-at}
 use Rattle.directory.specs.From.{Atom-from}
-use Rattle.directory.proofs.Cuts.{tail-part, cut-within, cut-part, word-within, word-at, word-behind}
+use Rattle.directory.proofs.Cuts.{cut-within, cut-part, word-within, word-at, word-behind}
 
 module _ (words : List ℕ) (at : ℕ) (predicates functions : List ℕ) (a : Atom-from words at predicates functions) where
   first-cut : drop at words ≡ a .sound .predicate ∷ encs (a .sound .arguments) ++ a .rest
@@ -37,11 +38,11 @@ module _ (words : List ℕ) (at : ℕ) (predicates functions : List ℕ) (a : At
       }
 
   pub atom-run : Run functions (take (length words - (at + 1)) (drop (at + 1) words)) (getD predicates (getD words at 0) 0)
-  atom-run = rw (tail-part words (at + 1)) arguments-run
+  atom-run = rw (part-from words (at + 1)) arguments-run
 
   pub atom-length : 1 + cellsOf functions (take (length words - (at + 1)) (drop (at + 1) words)) (getD predicates (getD words at 0) 0) ≡ length (enc (a .atom))
   atom-length =
-      rw (tail-part words (at + 1))
+      rw (part-from words (at + 1))
       (ap (λ (ts : Terms). 1 + length (encs ts)) (run-terms functions (drop (at + 1) words) _ arguments-run)
       ∙ add-one-left ∙ sym (ap (λ (t : Term). length (enc t)) (a .sound .is)))
     where

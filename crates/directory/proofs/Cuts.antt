@@ -4,16 +4,12 @@ use native.Mathlib.Omega.{arith}
 use mathlib.Core.Path.{_≡_, refl, sym, ap, _∙_}
 use mathlib.Core.List.{List, [], _∷_, _++_}
 use lib.ListN.{length, getD, take, drop, length-append, length-drop}
-use lib.Seq.{take-all, drop-drop, drop-at, take-at, getD-drop}
+use lib.Seq.{drop-drop, drop-at, take-at, getD-drop}
 use Rattle.program.specs.Program.{Nth, here, there}
 use Rattle.program.specs.Within.{Each, more}
-
 -- what crates above cite under these names
+pub use Rattle.terms.proofs.Places.{part-from as tail-part}
 pub use Rattle.program.proofs.Nths.{nth-below as nth-within, below-nth as nth-at}
-
--- the words from a place on, as `&words[at..]` has them
-pub tail-part : (words : List ℕ) (at : ℕ) → take (length words - at) (drop at words) ≡ drop at words
-tail-part words at = take-all (length words - at) (drop at words) (omega (arith, length-drop at words))
 
 -- a part between two places, as `&words[at..at + n]` has it
 pub middle-part : (words : List ℕ) (at n : ℕ) → take (at + n - at) (drop at words) ≡ take n (drop at words)

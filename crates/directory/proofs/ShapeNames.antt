@@ -4,7 +4,7 @@ use native.Mathlib.Numerals.{add-one}
 use native.Mathlib.Omega.{arith}
 use native.Mathlib.Decide.{ℕ-discrete, decLt}
 use mathlib.Core.Path.{_≡_, refl, sym, ap, _∙_}
-use mathlib.Core.List.{List, [], _∷_, _++_, map, append-assoc, append-nil, List·Memᴰ}
+use mathlib.Core.List.{List, [], _∷_, _++_, map, map-append, append-assoc, append-nil, List·Memᴰ}
 use lib.ListN.{length, getD, set, take, drop, length-append, length-set, take-append-drop}
 use lib.Seq.{take-length, getD-set-same, getD-set-other}
 use Rattle.terms.specs.Term.{Term, sameTerm}
@@ -14,6 +14,7 @@ use Rattle.program.specs.Within.{encodeAtoms, encodeClauses}
 use Rattle.program.specs.Shapes.{place, with, shapeOf, distinct, shapes, shapeNumber}
 use Rattle.program.proofs.ShapeLaws.{place-nth, with-has}
 use Rattle.program.proofs.OwnShape.{with-old, with-new, place-old, place-new}
+use Rattle.program.proofs.ShapeOrder.{distinct-append, distinct-extends}
 use Rattle.program.proofs.Nths.{nth-below}
 use Rattle.directory.specs.Layout.{predicateShape}
 use Rattle.directory.specs.Named.{Cleared, shapesUpTo}
@@ -72,26 +73,6 @@ length-with-most l t = by (ℕ-discrete (place sameTerm t l) (length l))
     by (yes e) = let q = length-with-new l t e in omega arith
     by (no n) = let q = length-with-old l t n in omega arith
 
-distinct-append : (ts us seen : List Term) → distinct seen (ts ++ us) ≡ distinct (distinct seen ts) us
-distinct-append [] us seen = refl
-distinct-append (t ∷ ts) us seen = distinct-append ts us (with sameTerm seen t)
-
--- the distinct ones are those before and some more
-distinct-more : (ts seen : List Term) → (more : List Term) × (distinct seen ts ≡ seen ++ more)
-distinct-more [] seen = ([], sym (append-nil seen))
-distinct-more (t ∷ ts) seen = by (decLt (place sameTerm t seen) (length seen)) (distinct-more ts (with sameTerm seen t))
-  where
-    by : Dec (place sameTerm t seen < length seen) → (more : List Term) × (distinct (with sameTerm seen t) ts ≡ with sameTerm seen t ++ more)
-        → (more : List Term) × (distinct (with sameTerm seen t) ts ≡ seen ++ more)
-    by (yes h) (more, e) = (more, e ∙ ap (λ (l : List Term). l ++ more) (with-old sameTerm seen t (member-by-place sameTerm seen t h)))
-    by (no h) (more, e) =
-        let nm : List·Memᴰ t seen → ⊥ = λ m. h (nth-below (place-nth sameTerm t seen m)) in
-        (t ∷ more, e ∙ ap (λ (l : List Term). l ++ more) (with-new sameTerm seen t nm) ∙ append-assoc seen (t ∷ []) more)
-
-map-append : (f : Term → Term) (l m : List Term) → map f (l ++ m) ≡ map f l ++ map f m
-map-append f [] m = refl
-map-append f (t ∷ l) m = ap (_∷_ (f t)) (map-append f l m)
-
 module _ (p : Program) where
   -- one atom more
   pub shapes-next : {j : ℕ} {A : Term} → Nth (bodies (p .clauses)) j A → shapesUpTo p (j + 1) ≡ with sameTerm (shapesUpTo p j) (shapeOf A)
@@ -108,7 +89,7 @@ module _ (p : Program) where
   shapes-more : (j : ℕ) → (more : List Term) × (shapes p ≡ shapesUpTo p j ++ more)
   shapes-more j =
       let ts = bodies (p .clauses) in
-      let (more, e) = distinct-more (map shapeOf (drop j ts)) (shapesUpTo p j) in (
+      let (more, e) = distinct-extends (map shapeOf (drop j ts)) (shapesUpTo p j) in (
         more,
         ap (λ (us : List Term). distinct (shapeOf (p .goal) ∷ []) (map shapeOf us)) (sym (take-append-drop j ts))
             ∙ ap (distinct (shapeOf (p .goal) ∷ [])) (map-append shapeOf (take j ts) (drop j ts))

@@ -4,7 +4,7 @@ use native.Mathlib.Omega.{arith}
 use native.Mathlib.Decide.{ℕ-discrete, decLt}
 use mathlib.Core.Path.{_≡_, refl, sym, ap, _∙_}
 use mathlib.Core.Logic.{_↔_}
-use mathlib.Core.List.{List, [], _∷_, _++_, map, List·Memᴰ, List·Memᴰ·head, Memᴰ·append-left, Memᴰ·append-right}
+use mathlib.Core.List.{List, [], _∷_, _++_, map, List·Memᴰ, List·Memᴰ·head, Memᴰ·append-left, Memᴰ·append-right, Memᴰ·map}
 use lib.ListN.{length, length-append, length-map}
 use Rattle.terms.specs.Term.{Term, Terms, var, app, nil, cons, Occ}
 use Rattle.terms.specs.Cells.{variables, Atom}
@@ -12,7 +12,7 @@ use Rattle.terms.proofs.Substs.{occ-sub, sub-occ}
 use Rattle.terms.proofs.Binding.{atom-variables}
 use Rattle.program.specs.Shapes.{place, with, met, mets, number, shapeOf}
 use Rattle.program.specs.Within.{after, afters, Numbered, Numbereds}
-use Rattle.program.proofs.ShapeLaws.{place-nth, met-has, map-has, member-decided, met-occurs}
+use Rattle.program.proofs.ShapeLaws.{place-nth, met-has, member-decided, met-occurs}
 use Rattle.program.proofs.OwnShape.{with-old, with-new, place-old, place-new, upTo, length-upTo, has-upTo, upTo-has}
 use Rattle.program.proofs.GoalShape.{meet-with}
 use Rattle.program.proofs.Nths.{nth-below}
@@ -68,7 +68,7 @@ met-few P F A a =
     found : (n : ℕ) → n < length (met [] A) → List·Memᴰ n (map (number A) (upTo variables))
     found n h =
         let (x, m, e) = met-onto A [] (λ k l. absurd (omega arith)) n h in
-        rw (← e) (map-has (number A) (upTo variables) x (upTo-has variables x (atom-variables a x (met-occurs A x m))))
+        rw (← e) (Memᴰ·map (number A) (upTo-has variables x (atom-variables a x (met-occurs A x m))))
 
 -- "variables are numbered from 0 by first appearance"
 mutual

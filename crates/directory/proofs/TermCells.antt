@@ -4,7 +4,7 @@ use native.Mathlib.Omega.{arith}
 use native.Mathlib.Decide.{ℕ-discrete}
 use mathlib.Core.Path.{_≡_, refl, sym, ap, ap₂, _∙_}
 use mathlib.Core.Logic.{_⊎_, inl, inr, _↔_}
-use mathlib.Core.List.{List, [], _∷_, _++_, map}
+use mathlib.Core.List.{List, [], _∷_, _++_, map, map-append}
 use lib.ListN.{length}
 use borrow.Author.Tests.{lt-ltb, le-ltb}
 use Rattle.terms.specs.Term.{Term, Terms, var, app, nil, cons, sub, subs, Occ, Occs}
@@ -39,10 +39,6 @@ mutual
       met-cells-append seen (enc t) (encs ts)
       ∙ ap (λ (l : List ℕ). metCells l (encs ts)) (met-enc F t seen (k .0))
       ∙ met-encs F ts (met seen t) (k .1)
-
-map-append : (f : ℕ → ℕ) (l m : List ℕ) → map f (l ++ m) ≡ map f l ++ map f m
-map-append f [] m = refl
-map-append f (c ∷ l) m = ap (_∷_ (f c)) (map-append f l m)
 
 renamed-function : (f : ℕ → ℕ) (c : ℕ) → c < firstVariable → renamed f c ≡ c
 renamed-function f c h = rw (lt-ltb c firstVariable h)

@@ -2,7 +2,7 @@
 use Prim.Native.Nat.{ℕ, zero, suc}
 use mathlib.Core.Path.{_≡_, refl, sym, ap, _∙_}
 use mathlib.Core.Logic.{_⊎_, inl, inr}
-use mathlib.Core.List.{List, [], _∷_, map, List·Memᴰ, List·Memᴰ·head, List·Memᴰ·tail, List·Memᴰ·cases-cons, Memᴰ·append-left, Memᴰ·append-right}
+use mathlib.Core.List.{List, [], _∷_, map, List·Memᴰ, List·Memᴰ·head, List·Memᴰ·tail, List·Memᴰ·cases-cons, Memᴰ·append-left, Memᴰ·append-right, Memᴰ·map}
 use lib.ListN.{getD}
 use native.Mathlib.Decide.{ℕ-discrete}
 use Rattle.terms.specs.Term.{Term, Terms, sameTerm, var, app, nil, cons, Subst, sub, Occ, Occs}
@@ -160,10 +160,6 @@ distinct-has (u ∷ ts) seen t m = at (distinct-has ts (with sameTerm seen u) t)
     at below (inl e) = distinct-keeps ts (with sameTerm seen u) t (rw e (with-has sameTerm seen u))
     at below (inr m′) = below m′
 
-pub map-has : {A B : Type 0} (f : A → B) (l : List A) (a : A) → List·Memᴰ a l → List·Memᴰ (f a) (map f l)
-map-has f (b ∷ l) a (List·Memᴰ·head e) = List·Memᴰ·head (ap f e)
-map-has f (b ∷ l) a (List·Memᴰ·tail m) = List·Memᴰ·tail (map-has f l a m)
-
 pub bodies-has : (cs : List Clause) {k i : ℕ} {c : Clause} {A : Term} → Nth cs k c → Nth (c .body) i A → List·Memᴰ A (bodies cs)
 bodies-has (c ∷ cs) here a = Memᴰ·append-left (bodies cs) (nth-member a)
 bodies-has (d ∷ cs) (there h) a = Memᴰ·append-right (d .body) (bodies-has cs h a)
@@ -172,7 +168,7 @@ bodies-has (d ∷ cs) (there h) a = Memᴰ·append-right (d .body) (bodies-has c
 pub body-shape : (p : Program) {k i : ℕ} {c : Clause} {A : Term} → Nth (p .clauses) k c → Nth (c .body) i A → Nth (shapes p) (shapeNumber p A) (shapeOf A)
 body-shape p {A = A} h a = place-nth sameTerm (shapeOf A) (shapes p)
     (distinct-has (shapeOf (p .goal) ∷ map shapeOf (bodies (p .clauses))) [] (shapeOf A)
-    (List·Memᴰ·tail (map-has shapeOf (bodies (p .clauses)) A (bodies-has (p .clauses) h a))))
+    (List·Memᴰ·tail (Memᴰ·map shapeOf (bodies-has (p .clauses) h a))))
 
 -- "Shape 0 is the goal's"
 pub distinct-first : (ts seen : List Term) (t : Term) → Nth seen 0 t → Nth (distinct seen ts) 0 t

@@ -3,7 +3,7 @@ use Prim.Native.Nat.{ℕ, zero, suc}
 use native.Mathlib.Omega.{arith}
 use mathlib.Core.Path.{_≡_, refl, sym, ap, _∙_}
 use mathlib.Core.Logic.{_⊎_, inl, inr}
-use mathlib.Core.List.{List, [], _∷_, _++_, map, append-assoc, append-nil}
+use mathlib.Core.List.{List, [], _∷_, _++_, map, append-assoc, append-nil, map-append}
 use Rattle.terms.specs.Term.{Term, sameTerm}
 use Rattle.program.specs.Program.{Nth, here, there, Program, bodies}
 use Rattle.program.specs.Shapes.{with, shapeOf, distinct, shapes, shapeNumber}
@@ -86,7 +86,3 @@ module _ (p : Program) where
   shapes-in-order first last e =
       let r = distinct-extends (map shapeOf last) (distinct [] (map shapeOf first)) in
       (r .0, ap (λ (l : List Term). distinct [] (map shapeOf l)) e ∙ ap (distinct []) (map-append shapeOf first last) ∙ distinct-append (map shapeOf first) (map shapeOf last) [] ∙ r .1)
-    where
-      map-append : (f : Term → Term) (xs ys : List Term) → map f (xs ++ ys) ≡ map f xs ++ map f ys
-      map-append f [] ys = refl
-      map-append f (x ∷ xs) ys = ap (λ (l : List Term). f x ∷ l) (map-append f xs ys)

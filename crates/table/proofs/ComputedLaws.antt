@@ -4,14 +4,14 @@ use native.Mathlib.Decide.{ℕ-discrete}
 use native.Mathlib.Omega.{arith}
 use mathlib.Core.Path.{_≡_, refl, subst}
 use mathlib.Core.Logic.{_⊎_, inl, inr, _↔_}
-use mathlib.Core.List.{List, [], _++_, map, List·Memᴰ, List·Memᴰ·head, List·Memᴰ·eq-of-singleton, List·Memᴰ·append-cases, Memᴰ·append-left, Memᴰ·append-right}
+use mathlib.Core.List.{List, [], _++_, map, List·Memᴰ, List·Memᴰ·head, List·Memᴰ·eq-of-singleton, List·Memᴰ·append-cases, Memᴰ·append-left, Memᴰ·append-right, Memᴰ·map}
 use lib.ListN.{length}
 use Rattle.terms.specs.Term.{Term}
 use Rattle.terms.proofs.Variables.{decided-for}
 use Rattle.marks.specs.Domain.{Domain}
 use Rattle.program.specs.Program.{Nth, Clause, Program}
 use Rattle.program.specs.Shapes.{shapes, shapeNumber, number, Listed}
-use Rattle.program.proofs.ShapeLaws.{map-has, member-decided}
+use Rattle.program.proofs.ShapeLaws.{member-decided}
 use Rattle.program.proofs.ListLaws.{listed-decided}
 use Rattle.table.specs.Rules.{Row, call, cont, solution, Row-discrete, Reached, first, next, Gives, calls, conts, solves}
 use Rattle.table.specs.Rounds.{At, First, Least}
@@ -80,7 +80,7 @@ module _ (D : Domain) (lists : Lists D) (p : Program) (rows : List (Row (D .Mark
       (each-has (at (p .clauses) k) _ (at-has hc)
       (each-has rows (onCall _) row
       (each-has (at (shapes p) s) _ (at-has hs)
-      (map-has _ (lists .passes S M (c .head) (D .none)) N (lists .passes-all S M (c .head) (D .none) N .1 passed))))))
+      (Memᴰ·map _ (lists .passes-all S M (c .head) (D .none) N .1 passed))))))
   reached-arrivals (next {k} {i} {s} {c} {A} {S} {M} {L} {Q} {N} hc hA hs row row′ passed joined) =
       Memᴰ·append-right (each (places (p .clauses)) (firsts D lists p rows))
       (each-has rows (onCont _) row
@@ -89,7 +89,7 @@ module _ (D : Domain) (lists : Lists D) (p : Program) (rows : List (Row (D .Mark
       (each-has rows (onSolution _) row′
       (each-has (at (shapes p) s) _ (at-has hs)
       (each-has (lists .passes S L A (D .none)) _ (lists .passes-all S L A (D .none) Q .1 passed)
-      (map-has _ (lists .joins M Q) N (lists .joins-all M Q N .1 joined))))))))
+      (Memᴰ·map _ (lists .joins-all M Q N .1 joined))))))))
 
   pub goes-gives : (k i : ℕ) (N : D .Mark) (c : Clause) (A : Term) (row : Row (D .Mark)) → Reached D p Of k i N → Nth (p .clauses) k c → Nth (c .body) i A
       → List·Memᴰ row (goes D lists p k i N c A) → Gives D p Of row
@@ -157,11 +157,11 @@ module _ (D : Domain) (lists : Lists D) (p : Program) (rows : List (Row (D .Mark
   gives-given _ (calls {k} {i} {c} {A} {N} {R} reached hc hA numbered) =
       goes-given k i N c A _ reached hc hA
       (Memᴰ·append-left (map (cont (suc k) (suc i)) (lists .keeps (Listed c i) (listed-decided c i) N))
-      (map-has (call (shapeNumber p A)) (lists .numbers A (number A) N) R (lists .numbers-all A (number A) N R .1 numbered)))
+      (Memᴰ·map (call (shapeNumber p A)) (lists .numbers-all A (number A) N R .1 numbered)))
   gives-given _ (conts {k} {i} {c} {A} {N} {R} reached hc hA kept) =
       goes-given k i N c A _ reached hc hA
       (Memᴰ·append-right (map (call (shapeNumber p A)) (lists .numbers A (number A) N))
-      (map-has (cont (suc k) (suc i)) (lists .keeps (Listed c i) (listed-decided c i) N) R (lists .keeps-all (Listed c i) (listed-decided c i) N R .1 kept)))
+      (Memᴰ·map (cont (suc k) (suc i)) (lists .keeps-all (Listed c i) (listed-decided c i) N R .1 kept)))
   gives-given _ (solves {k} {s} {c} {S} {N} {C} {R} hc reached hs r passed) =
       arrival-given k (length (c .body)) N c (solution s R) reached hc
       (Memᴰ·append-right (each (at (c .body) (length (c .body))) (goes D lists p k (length (c .body)) N c)) (ended (ℕ-discrete (length (c .body)) (length (c .body)))))
@@ -170,7 +170,7 @@ module _ (D : Domain) (lists : Lists D) (p : Program) (rows : List (Row (D .Mark
           → List·Memᴰ (solution s R) (elim d as (λ _. List (Row (D .Mark))) [ yes _ ↦ ends D lists p rows N c | no _ ↦ [] ])
       ended (yes _) =
           each-has rows (onCall _) r
-          (each-has (at (shapes p) s) _ (at-has hs) (map-has (solution s) (lists .passes (c .head) N S C) R (lists .passes-all (c .head) N S C R .1 passed)))
+          (each-has (at (shapes p) s) _ (at-has hs) (Memᴰ·map (solution s) (lists .passes-all (c .head) N S C R .1 passed)))
       ended (no ne) = absurd (ne refl)
 
 module _ (D : Domain) (lists : Lists D) (p : Program) (goal : D .Mark) where

@@ -2,10 +2,10 @@
 use Prim.Native.Nat.{ℕ, zero, suc}
 use mathlib.Core.Path.{_≡_, refl}
 use mathlib.Core.Logic.{_⊎_, inl, inr}
-use mathlib.Core.List.{List, [], _∷_, _++_, map, List·Memᴰ, List·Memᴰ·head, List·Memᴰ·tail, List·Memᴰ·append-cases, Memᴰ·append-left, Memᴰ·append-right}
+use mathlib.Core.List.{List, [], _∷_, _++_, map, List·Memᴰ, List·Memᴰ·head, List·Memᴰ·tail, List·Memᴰ·append-cases, Memᴰ·append-left, Memᴰ·append-right, Memᴰ·map}
 use Rattle.program.specs.Program.{Nth, here, there}
 use Rattle.program.specs.Shapes.{with}
-use Rattle.program.proofs.ShapeLaws.{map-has, with-keeps, with-has, has-with}
+use Rattle.program.proofs.ShapeLaws.{with-keeps, with-has, has-with}
 -- what crates above cite from here
 unfoldable pub use Rattle.program.proofs.ShapeLaws.{member-decided}
 
@@ -51,7 +51,7 @@ places (a ∷ l) = zero ∷ map suc (places l)
 
 pub places-has : {A : Type 0} {l : List A} {n : ℕ} {a : A} → Nth l n a → List·Memᴰ n (places l)
 places-has here = List·Memᴰ·head refl
-places-has (there {rest = rest} {n = n} h) = List·Memᴰ·tail (map-has suc (places rest) n (places-has h))
+places-has (there {rest = rest} {n = n} h) = List·Memᴰ·tail (Memᴰ·map suc (places-has h))
 
 -- one list behind another, each element once
 abbrev pub behind : {A : Type 0} → Discrete A → List A → List A → List A

@@ -3,7 +3,7 @@ use Prim.Native.Nat.{ℕ, _≤_, _<_}
 use native.Mathlib.Omega.{arith}
 use mathlib.Core.Path.{_≡_, refl, sym, ap, _∙_}
 use mathlib.Core.Logic.{_⊎_, inl, inr, _↔_}
-use mathlib.Core.List.{List, [], _∷_, map, List·Memᴰ, List·Memᴰ·head, List·Memᴰ·tail, List·Memᴰ·cases-cons, List·Memᴰ·not-nil}
+use mathlib.Core.List.{List, [], _∷_, map, List·Memᴰ, List·Memᴰ·head, List·Memᴰ·tail, List·Memᴰ·cases-cons, List·Memᴰ·not-nil, Memᴰ·map}
 use lib.ListN.{length, replicate, length-map}
 use Rattle.terms.proofs.Masks.{mark-never-neither}
 use Rattle.marks.specs.Modes.{modes}
@@ -11,7 +11,6 @@ use Rattle.program.specs.Program.{Program}
 use Rattle.program.specs.Reply.{accepted, noRoom, neither as badMark, done}
 use Rattle.program.specs.Faults.{Found, fault, sound, faults}
 use Rattle.program.specs.declared.reply.Reply.{Reply}
-use Rattle.program.proofs.ShapeLaws.{map-has}
 use Rattle.table.specs.Rules.{Row}
 use Rattle.table.specs.Rounds.{First, Least, Appears}
 use Rattle.table.specs.Table.{Entry, entryWords, Before, Ascending, Distinct, roomIn, TableOf, MoreThan, ComesOutNeither, Promise, faulty, listed, full, unmarked}
@@ -79,7 +78,7 @@ module _ (p : Program) where
 
     pub appears-listed : (row : Row ℕ) → Appears modes p (p .ground) row → List·Memᴰ row rowsOf
     appears-listed row a =
-        let (k, f) = appears-first row a in map-has (λ (e : Entry). e .row) entries (record { round = k; row = row }) (t .all k row f)
+        let (k, f) = appears-first row a in Memᴰ·map (λ (e : Entry). e .row) (t .all k row f)
 
     pub listed-appears : (row : Row ℕ) → List·Memᴰ row rowsOf → Appears modes p (p .ground) row
     listed-appears row m =

@@ -4,14 +4,14 @@ use native.Mathlib.Omega.{arith}
 use native.Mathlib.Decide.{decLe}
 use mathlib.Core.Path.{_≡_, refl, ap, _∙_, subst}
 use mathlib.Core.Logic.{_⊎_, inl, inr}
-use mathlib.Core.List.{List, [], _∷_, map, List·Memᴰ, List·Memᴰ·not-nil, Memᴰ·cast}
+use mathlib.Core.List.{List, [], _∷_, map, List·Memᴰ, List·Memᴰ·not-nil, Memᴰ·cast, Memᴰ·map}
 use lib.ListN.{length, length-append}
 use Rattle.marks.specs.Modes.{modes}
 use Rattle.program.specs.Program.{Program}
 use Rattle.program.specs.Faults.{Found, fault, sound, faults}
 use Rattle.program.specs.Shapes.{with}
 use Rattle.program.specs.declared.reply.Reply.{Reply}
-use Rattle.program.proofs.ShapeLaws.{map-has, member-decided}
+use Rattle.program.proofs.ShapeLaws.{member-decided}
 use Rattle.program.proofs.OwnShape.{with-old, with-new}
 use Rattle.table.specs.Rules.{Row}
 use Rattle.table.specs.Rounds.{At, First}
@@ -105,7 +105,7 @@ module _ (p : Program) where
           let r = rounds-grow modes p (p .ground) k (e .round) l (e .row) (f .0) in
           let d = first-once modes p (p .ground) (e .round) (roundOf k (e .row)) (e .row) f (round-of-first k (e .row) r .1) in
           Memᴰ·cast (λ i. record { round = d i; row = e .row })
-          (map-has (λ row. record { round = roundOf k row; row = row }) (rows k) (e .row) (computed-at modes modes-lists p (p .ground) k (e .row) .1 r))
+          (Memᴰ·map (λ row. record { round = roundOf k row; row = row }) (computed-at modes modes-lists p (p .ground) k (e .row) .1 r))
 
   -- in ascending order they are the table, where the rounds stop
   abbrev pub tableAt : ℕ → List Entry

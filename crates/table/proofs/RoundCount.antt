@@ -3,11 +3,10 @@ use Prim.Native.Nat.{ℕ, zero, suc, _≤_, _<_}
 use native.Mathlib.Omega.{arith}
 use native.Mathlib.Decide.{ℕ-discrete}
 use mathlib.Core.Path.{_≡_}
-use mathlib.Core.List.{List, map, List·Memᴰ}
+use mathlib.Core.List.{List, map, List·Memᴰ, Memᴰ·map}
 use lib.ListN.{length, length-map}
 use Rattle.marks.specs.Domain.{Domain}
 use Rattle.program.specs.Program.{Program}
-use Rattle.program.proofs.ShapeLaws.{map-has}
 use Rattle.program.proofs.Counting.{all-below-count}
 use Rattle.table.specs.Rules.{Row}
 use Rattle.table.specs.Rounds.{At, First}
@@ -33,4 +32,4 @@ module _ (D : Domain) (p : Program) (goal : D .Mark) (decide : (k : ℕ) (row : 
       found j less =
           let (row′, f′) = round-inhabited k j (omega arith) row f in
           let (a, m, e) = listed j row′ f′ in
-          rw (← e) (map-has round l a m)
+          rw (← e) (Memᴰ·map round m)
