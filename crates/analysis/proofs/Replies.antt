@@ -1,20 +1,18 @@
 -- The replies of the analysis: what the scan's reply says, the room, and zeros behind the rows.
-use Prim.Native.Nat.{ℕ, suc, _+_, _-_, _*_, _/_, _≤_, _<_, min}
+use Prim.Native.Nat.{ℕ, _-_, _*_, _/_, _≤_, _<_}
 use native.Mathlib.Omega.{arith}
 use native.Mathlib.Nat.{min-le-left, min-le-right, le-refl}
-use mathlib.Core.Path.{_≡_, refl, sym, ap, subst, _∙_}
-use mathlib.Core.Logic.{_⊎_, inl, inr}
+use mathlib.Core.Path.{_≡_, refl, sym, ap, _∙_}
+use mathlib.Core.Logic.{inl, inr}
 use mathlib.Core.List.{List, [], _++_, append-nil}
-use lib.ListN.{length, take, drop, replicate, drop-of-length-le}
+use lib.ListN.{length, take, replicate, drop-of-length-le}
 use lib.Seq.{take-at}
 use borrow.Rule.Slice.PartMut.{putMid, midOf, postOf, post-is, mid-len}
 use Rattle.program.specs.Program.{Program}
 use Rattle.program.specs.Faults.{Found, fault, sound, faults, replyOf}
-use Rattle.program.specs.Reply.{refused, done}
+use Rattle.program.specs.Reply.{done}
 use Rattle.program.specs.declared.reply.Reply.{Reply}
-use Rattle.table.specs.Table.{Entry, rowSize, roomIn, tableWords, MoreThan, Promise, faulty, listed}
-use Rattle.table.proofs.FaultNumbers.{fault-number}
-use Rattle.table.proofs.Entries.{table-words-length}
+use Rattle.table.specs.Table.{rowSize, roomIn, MoreThan, Promise, faulty, listed}
 use Rattle.analysis.specs.Clauses.{Complete, Finished}
 use Rattle.analysis.specs.Finished.{InTable}
 
@@ -23,16 +21,6 @@ pub room-fits : (size : ℕ) → (roomIn size ≤ 4096) × (rowSize * roomIn siz
 room-fits size = let l = min-le-left (size / rowSize) 4096 in (min-le-right (size / rowSize) 4096, omega arith)
 
 module _ (words : List ℕ) (r : Reply) (is : r ≡ replyOf (faults words)) where
-  -- the scan's number is 0 only for a program
-  pub accepted-sound : r .number ≡ 0 → (p : Program) × (faults words ≡ sound p)
-  accepted-sound z = at (faults words) refl
-    where
-      at : (f : Found) → faults words ≡ f → (p : Program) × (faults words ≡ sound p)
-      at (sound p) e = (p, e)
-      at (fault number place) e =
-          let n : r .number ≡ number = ap (λ (x : Reply). x .number) (is ∙ ap replyOf e) in
-          absurd (omega (arith, fault-number words number place e))
-
   -- "Every refusal zeroes all lent output."
   pub refused-faulty : (size : ℕ) (table : List ℕ) → (r .number ≡ 0 → ⊥) → table ≡ replicate size 0 → Promise words size r table
   refused-faulty size table nz zeros = at (faults words) refl

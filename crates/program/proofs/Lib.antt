@@ -18,5 +18,6 @@ pub mod AtomWords
 pub mod Modes
 pub mod ClauseWords
 pub mod ProgramWords
+pub mod FaultNumbers
 pub mod Once
 pub mod ShapeOrder

@@ -9,10 +9,10 @@ use Rattle.marks.specs.Modes.{modes}
 use Rattle.program.specs.Program.{Program}
 use Rattle.program.specs.Reply.{accepted, noRoom}
 use Rattle.program.specs.declared.reply.Reply.{Reply}
+use Rattle.program.proofs.FaultNumbers.{fault-number}
 use Rattle.table.specs.Rules.{Row, call, cont, solution}
 use Rattle.table.specs.Rounds.{Least}
 use Rattle.table.specs.Table.{Entry, rowWords, tableWords, TableOf, Promise, faulty, listed, full, unmarked}
-use Rattle.table.proofs.FaultNumbers.{fault-number}
 use Rattle.table.proofs.RoundLaws.{least-appears}
 use Rattle.table.proofs.Sorting.{row-words-same}
 use Rattle.table.proofs.Promise.{appears-first, neither-never}

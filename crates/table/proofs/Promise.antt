@@ -11,12 +11,12 @@ use Rattle.program.specs.Program.{Program}
 use Rattle.program.specs.Reply.{accepted, noRoom, neither as badMark, done}
 use Rattle.program.specs.Faults.{Found, fault, sound, faults}
 use Rattle.program.specs.declared.reply.Reply.{Reply}
+use Rattle.program.proofs.FaultNumbers.{fault-number}
 use Rattle.table.specs.Rules.{Row}
 use Rattle.table.specs.Rounds.{First, Least, Appears}
 use Rattle.table.specs.Table.{Entry, entryWords, Before, Ascending, Distinct, roomIn, TableOf, MoreThan, ComesOutNeither, Promise, faulty, listed, full, unmarked}
 use Rattle.table.proofs.Lists.{has-map}
 use Rattle.table.proofs.Distinct.{distinct-length, distinct-map}
-use Rattle.table.proofs.FaultNumbers.{fault-number}
 use Rattle.table.proofs.RoundLaws.{first-once, first-round, least-appears}
 use Rattle.table.proofs.RoundCount.{round-below-count}
 use Rattle.table.proofs.ComputedLaws.{at-decided}

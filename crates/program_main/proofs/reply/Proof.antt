@@ -1,7 +1,7 @@
 -- `reply` is safe: the shapes are asked for only once the scan has accepted the words.
 -- Assumes nothing.
-use Rattle.analysis.proofs.Replies.{accepted-sound}
 use borrow.Author.Needs.{needs}
+use Rattle.program.proofs.FaultNumbers.{accepted-sound}
 use Rattle.program_main.proofs.reply.Statement.{statement}
 use Rattle.program_main.proofs.reply.Tie as tie
 

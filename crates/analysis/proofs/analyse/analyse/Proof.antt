@@ -1,6 +1,7 @@
 -- `analyse` meets its contract: the scan accepts the words, or its reply is the fault's. Assumes nothing.
-use Rattle.analysis.proofs.Replies.{accepted-sound, refused-faulty}
+use Rattle.analysis.proofs.Replies.{refused-faulty}
 use borrow.Author.Needs.{needs}
+use Rattle.program.proofs.FaultNumbers.{accepted-sound}
 use Rattle.analysis.proofs.analyse.analyse.Statement.{statement}
 use Rattle.analysis.proofs.analyse.analyse.Tie as tie
 
