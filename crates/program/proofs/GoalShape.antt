@@ -9,11 +9,11 @@ use lib.ListN.{length, getD}
 use lib.Dec.{ltb}
 use borrow.Author.Tests.{ltb-true, ltb-false}
 use Rattle.terms.specs.Term.{Term, Terms, app, nil, cons}
-use Rattle.terms.specs.Cells.{firstVariable, atomCells}
+use Rattle.terms.specs.Cells.{firstVariable, atomCells, takeTerms, dropTerms}
 use Rattle.program.specs.Limits.{maxWords, maxVariable, minPredicates, maxDeclared, anyMode, groundMode}
 use Rattle.program.specs.Reply.{outOfRange, badGoal, badVariable, longAtom, undeclared, tooLong}
 use Rattle.program.specs.Reading.{Read, wrong, right, next, pick, bounded, several}
-use Rattle.program.specs.Atoms.{meet, variableOf, symbolOf, cellOf, firsts, others, opened, terms, atom}
+use Rattle.program.specs.Atoms.{meet, variableOf, symbolOf, cellOf, opened, terms, atom}
 use Rattle.program.specs.Faults.{goal, ended, arities, clause, written, declared, whole, Found, fault, sound, foundIn, faults}
 use Rattle.program.specs.Program.{Program}
 use Rattle.program.specs.Shapes.{with, met, mets, shapeOf}
@@ -41,7 +41,7 @@ pub gets-after : {A B : Type 0} (P : B → Type 0) (r : Read A) (f : A → List 
 gets-after P r f h = gets-next (λ _. Unit {0}) P r f (gets-any r) (λ a rest _. h a rest)
 
 -- the variables of some terms and then of the others are those of all
-pub mets-split : (n : ℕ) (ts : Terms) (seen : List ℕ) → mets (mets seen (firsts n ts)) (others n ts) ≡ mets seen ts
+pub mets-split : (n : ℕ) (ts : Terms) (seen : List ℕ) → mets (mets seen (takeTerms n ts)) (dropTerms n ts) ≡ mets seen ts
 mets-split zero ts seen = refl
 mets-split (suc n) nil seen = refl
 mets-split (suc n) (cons t ts) seen = mets-split n ts (met seen t)

@@ -1,24 +1,25 @@
 -- The terms that are read from words are the terms whose cells the words are, both ways.
 use Prim.Native.Nat.{ℕ, zero, suc, _+_, _-_, _≤_, _<_}
 use native.Mathlib.Omega.{arith}
-use native.Mathlib.Nat.{add-assoc, add-comm}
 use mathlib.Core.Path.{_≡_, refl, sym, ap, ap₂, _∙_}
-use mathlib.Core.Bool.{Bool, true, false}
-use mathlib.Core.List.{List, [], _∷_, _++_, append-assoc}
-use lib.ListN.{length, getD, length-append}
+use mathlib.Core.List.{List, [], _∷_, _++_}
+use lib.ListN.{length, getD}
 use lib.Dec.{ltb}
 use borrow.Author.Tests.{lt-ltb, le-ltb, ltb-true, ltb-false}
-use Rattle.terms.specs.Term.{Term, Terms, var, app, nil, cons, count, join}
-use Rattle.terms.specs.Cells.{enc, encs, Keeps, Keepss, atomCells, firstVariable, variables}
+use Rattle.terms.specs.Term.{Terms, nil, cons, count}
+use Rattle.terms.specs.Cells.{encs, Keepss, atomCells, firstVariable, variables, takeTerms, dropTerms}
+use Rattle.terms.proofs.Runs.{count-take, count-drop, keeps-take, keeps-drop}
 use Rattle.program.specs.Limits.{maxVariable}
 use Rattle.program.specs.Reply.{tooSoon, undeclared, badVariable, longAtom}
-use Rattle.program.specs.Reading.{Read, wrong, right, next, pick}
-use Rattle.program.specs.Atoms.{meet, variableOf, symbolOf, cellOf, firsts, others, build, opened, terms}
-use Rattle.program.specs.Within.{after, afters, Numbered, Numbereds}
+use Rattle.program.specs.Reading.{Read, wrong, right, pick}
+use Rattle.program.specs.Atoms.{meet, variableOf, symbolOf, cellOf, build, opened, terms}
+use Rattle.program.specs.Within.{after, afters, Numbereds}
 use Rattle.program.specs.declared.cells.Cell.{Cell}
 use Rattle.program.specs.declared.cells.Cell.the-variants.{Bad, Opens}
 use Rattle.program.proofs.Taking.{pick-cases, terms-cell, no-terms}
 use Rattle.program.proofs.Words.{next-right}
+-- what crates above cite from here
+pub use Rattle.terms.proofs.Runs.{encs-split}
 
 -- what a cell says that opens so many terms: a declared function, or a variable that skips no number
 pub data Says (functions : List ℕ) (taken seen w : ℕ) : Cell → Type 0 where
@@ -45,46 +46,21 @@ cell-says functions taken seen w =
     P : Cell → Type 0
     P = Says functions taken seen w
 
--- the first terms and the others, together
-pub encs-split : (n : ℕ) (ts : Terms) → encs (firsts n ts) ++ encs (others n ts) ≡ encs ts
-encs-split zero ts = refl
-encs-split (suc n) nil = refl
-encs-split (suc n) (cons t ts) = append-assoc (enc t) (encs (firsts n ts)) (encs (others n ts)) ∙ ap (λ (l : List ℕ). enc t ++ l) (encs-split n ts)
-
-pub afters-split : (n seen : ℕ) (ts : Terms) → afters (afters seen (firsts n ts)) (others n ts) ≡ afters seen ts
+-- the first terms and those behind them: the variables met after them, and their numbers
+pub afters-split : (n seen : ℕ) (ts : Terms) → afters (afters seen (takeTerms n ts)) (dropTerms n ts) ≡ afters seen ts
 afters-split zero seen ts = refl
 afters-split (suc n) seen nil = refl
 afters-split (suc n) seen (cons t ts) = afters-split n (after seen t) ts
 
-pub count-firsts : (n m : ℕ) (ts : Terms) → count ts ≡ n + m → count (firsts n ts) ≡ n
-count-firsts zero m ts e = refl
-count-firsts (suc n) m nil e = absurd (omega arith)
-count-firsts (suc n) m (cons t ts) e = ap suc (count-firsts n m ts (omega arith))
+pub numbered-take : (n seen : ℕ) (ts : Terms) → Numbereds seen ts → Numbereds seen (takeTerms n ts)
+numbered-take zero seen ts k = tt
+numbered-take (suc n) seen nil k = tt
+numbered-take (suc n) seen (cons t ts) k = (k .0, numbered-take n (after seen t) ts (k .1))
 
-pub count-others : (n m : ℕ) (ts : Terms) → count ts ≡ n + m → count (others n ts) ≡ m
-count-others zero m ts e = omega arith
-count-others (suc n) m nil e = absurd (omega arith)
-count-others (suc n) m (cons t ts) e = count-others n m ts (omega arith)
-
-pub keeps-firsts : (fs : List ℕ) (n : ℕ) (ts : Terms) → Keepss fs ts → Keepss fs (firsts n ts)
-keeps-firsts fs zero ts k = tt
-keeps-firsts fs (suc n) nil k = tt
-keeps-firsts fs (suc n) (cons t ts) k = (k .0, keeps-firsts fs n ts (k .1))
-
-pub keeps-others : (fs : List ℕ) (n : ℕ) (ts : Terms) → Keepss fs ts → Keepss fs (others n ts)
-keeps-others fs zero ts k = k
-keeps-others fs (suc n) nil k = tt
-keeps-others fs (suc n) (cons t ts) k = keeps-others fs n ts (k .1)
-
-pub numbered-firsts : (n seen : ℕ) (ts : Terms) → Numbereds seen ts → Numbereds seen (firsts n ts)
-numbered-firsts zero seen ts k = tt
-numbered-firsts (suc n) seen nil k = tt
-numbered-firsts (suc n) seen (cons t ts) k = (k .0, numbered-firsts n (after seen t) ts (k .1))
-
-pub numbered-others : (n seen : ℕ) (ts : Terms) → Numbereds seen ts → Numbereds (afters seen (firsts n ts)) (others n ts)
-numbered-others zero seen ts k = k
-numbered-others (suc n) seen nil k = tt
-numbered-others (suc n) seen (cons t ts) k = numbered-others n (after seen t) ts (k .1)
+pub numbered-drop : (n seen : ℕ) (ts : Terms) → Numbereds seen ts → Numbereds (afters seen (takeTerms n ts)) (dropTerms n ts)
+numbered-drop zero seen ts k = k
+numbered-drop (suc n) seen nil k = tt
+numbered-drop (suc n) seen (cons t ts) k = numbered-drop n (after seen t) ts (k .1)
 
 -- what is known of terms that were read
 pub record Terms-read (functions ws : List ℕ) (n taken seen : ℕ) (ts : Terms) (seen′ : ℕ) (rest : List ℕ) : Type 0 where
@@ -100,13 +76,13 @@ cell-read : (functions ws : List ℕ) (w n taken seen arity now : ℕ) (ts : Ter
     → Terms-read functions ws (arity + n) (suc taken) now ts seen′ rest
     → Terms-read functions (w ∷ ws) (suc n) taken seen (build w arity ts) seen′ rest
 cell-read functions ws w n taken seen arity now ts seen′ rest (function first low declared) r =
-    let whole : encs (firsts arity ts) ++ encs (others arity ts) ≡ encs ts = encs-split arity ts in
+    let whole : encs (takeTerms arity ts) ++ encs (dropTerms arity ts) ≡ encs ts = encs-split arity ts in
     rw (lt-ltb w firstVariable low)
     (record {
       are = ap (λ (l : List ℕ). w ∷ l) (r .are ∙ ap (λ (l : List ℕ). l ++ rest) (sym whole));
-      number = ap suc (count-others arity n ts (r .number));
-      keeps = ((declared, low, count-firsts arity n ts (r .number), keeps-firsts functions arity ts (r .keeps)), keeps-others functions arity ts (r .keeps));
-      numbered = (numbered-firsts arity seen ts (r .numbered), numbered-others arity seen ts (r .numbered));
+      number = ap suc (count-drop arity n ts (r .number));
+      keeps = ((declared, low, count-take arity n ts (r .number), keeps-take functions arity ts (r .keeps)), keeps-drop functions arity ts (r .keeps));
+      numbered = (numbered-take arity seen ts (r .numbered), numbered-drop arity seen ts (r .numbered));
       meets = r .meets ∙ sym (afters-split arity seen ts);
       short = rw whole (omega (arith, r .short));
     })

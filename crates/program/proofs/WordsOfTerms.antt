@@ -1,16 +1,17 @@
 -- The cells of terms within the limits are read as those terms.
-use Prim.Native.Nat.{ℕ, zero, suc, _+_, _-_, _≤_, _<_}
+use Prim.Native.Nat.{ℕ, suc, _+_, _-_, _≤_, _<_}
 use native.Mathlib.Omega.{arith}
-use native.Mathlib.Nat.{zero-add, add-zero, add-assoc}
+use native.Mathlib.Nat.{zero-add, add-zero}
 use mathlib.Core.Path.{_≡_, refl, sym, ap, ap₂, _∙_}
-use mathlib.Core.List.{List, [], _∷_, _++_, append-assoc}
+use mathlib.Core.List.{List, _++_, append-assoc}
 use lib.ListN.{length, getD, length-append}
 use borrow.Author.Tests.{lt-ltb, le-ltb}
 use Rattle.terms.specs.Term.{Term, Terms, var, app, nil, cons, count, join}
 use Rattle.terms.specs.Cells.{enc, encs, Keeps, Keepss, atomCells, firstVariable}
+use Rattle.terms.proofs.Runs.{take-join, drop-join, join-nil}
 use Rattle.program.specs.Limits.{maxVariable}
 use Rattle.program.specs.Reading.{Read, wrong, right, next}
-use Rattle.program.specs.Atoms.{meet, cellOf, firsts, others, build, opened, terms}
+use Rattle.program.specs.Atoms.{meet, cellOf, build, terms}
 use Rattle.program.specs.Within.{after, afters, Numbered, Numbereds}
 use Rattle.program.specs.declared.cells.Cell.the-variants.{Opens}
 use Rattle.program.proofs.Taking.{terms-cell, no-terms}
@@ -26,21 +27,8 @@ variable-opens functions taken seen v h s k =
     let same : firstVariable + v - firstVariable ≡ v = omega arith in
     rw (lt-ltb _ _ h, le-ltb _ _ high) (rw same (rw (le-ltb _ _ s, le-ltb _ _ k)))
 
--- as many of joined terms as the first has are the first
-pub firsts-join : (ts us : Terms) → firsts (count ts) (join ts us) ≡ ts
-firsts-join nil us = refl
-firsts-join (cons t ts) us = ap (cons t) (firsts-join ts us)
-
-pub others-join : (ts us : Terms) → others (count ts) (join ts us) ≡ us
-others-join nil us = refl
-others-join (cons t ts) us = others-join ts us
-
-pub join-nil : (ts : Terms) → join ts nil ≡ ts
-join-nil nil = refl
-join-nil (cons t ts) = ap (cons t) (join-nil ts)
-
 build-function : (w : ℕ) (ts us : Terms) → w < firstVariable → build w (count ts) (join ts us) ≡ cons (app w ts) us
-build-function w ts us h = rw (lt-ltb _ _ h) (ap₂ (λ (x y : Terms). cons (app w x) y) (firsts-join ts us) (others-join ts us))
+build-function w ts us h = rw (lt-ltb _ _ h) (ap₂ (λ (x y : Terms). cons (app w x) y) (take-join ts us (count ts) refl) (drop-join ts us (count ts) refl))
 
 build-variable : (v : ℕ) (us : Terms) → build (firstVariable + v) 0 us ≡ cons (var v) us
 build-variable v us =

@@ -4,7 +4,7 @@ use mathlib.Core.List.{List, [], _∷_}
 use lib.ListN.{length, getD}
 use lib.Dec.{ltb}
 use Rattle.terms.specs.Term.{Term, Terms, var, app, nil, cons}
-use Rattle.terms.specs.Cells.{firstVariable, atomCells}
+use Rattle.terms.specs.Cells.{firstVariable, atomCells, takeTerms, dropTerms}
 use Rattle.program.specs.Limits.{maxVariable}
 use Rattle.program.specs.Reply.{tooSoon, undeclared, badVariable, longAtom}
 use Rattle.program.specs.Reading.{Read, wrong, right, next, pick}
@@ -31,20 +31,10 @@ symbolOf functions seen w =
 abbrev pub cellOf : List ℕ → ℕ → ℕ → ℕ → Cell
 cellOf functions taken seen w = pick (ltb taken atomCells) (symbolOf functions seen w) (Bad longAtom)
 
-abbrev pub firsts : ℕ → Terms → Terms
-firsts zero ts = nil
-firsts (suc n) nil = nil
-firsts (suc n) (cons t ts) = cons t (firsts n ts)
-
-abbrev pub others : ℕ → Terms → Terms
-others zero ts = ts
-others (suc n) nil = nil
-others (suc n) (cons t ts) = others n ts
-
 -- the cell's term, with its arguments from the terms after it
 abbrev pub build : ℕ → ℕ → Terms → Terms
 build w arity ts =
-    pick (ltb w firstVariable) (cons (app w (firsts arity ts)) (others arity ts)) (cons (var (w - firstVariable)) ts)
+    pick (ltb w firstVariable) (cons (app w (takeTerms arity ts)) (dropTerms arity ts)) (cons (var (w - firstVariable)) ts)
 
 -- what a cell opens, given how to read so many terms after it with so many variables met
 abbrev pub opened : Cell → ℕ → List ℕ → (ℕ → ℕ → Read (Terms × ℕ)) → Read (Terms × ℕ)

@@ -24,6 +24,32 @@ pub join-nil : (ts : Terms) → join ts nil ≡ ts
 join-nil nil = refl
 join-nil (cons t ts) = ap (cons t) (join-nil ts)
 
+-- the first terms and those behind them, together
+pub encs-split : (n : ℕ) (ts : Terms) → encs (takeTerms n ts) ++ encs (dropTerms n ts) ≡ encs ts
+encs-split zero ts = refl
+encs-split (suc n) nil = refl
+encs-split (suc n) (cons t ts) = append-assoc (enc t) (encs (takeTerms n ts)) (encs (dropTerms n ts)) ∙ ap (λ (l : List ℕ). enc t ++ l) (encs-split n ts)
+
+pub count-take : (n m : ℕ) (ts : Terms) → count ts ≡ n + m → count (takeTerms n ts) ≡ n
+count-take zero m ts e = refl
+count-take (suc n) m nil e = absurd (omega arith)
+count-take (suc n) m (cons t ts) e = ap suc (count-take n m ts (omega arith))
+
+pub count-drop : (n m : ℕ) (ts : Terms) → count ts ≡ n + m → count (dropTerms n ts) ≡ m
+count-drop zero m ts e = omega arith
+count-drop (suc n) m nil e = absurd (omega arith)
+count-drop (suc n) m (cons t ts) e = count-drop n m ts (omega arith)
+
+pub keeps-take : (arities : List ℕ) (n : ℕ) (ts : Terms) → Keepss arities ts → Keepss arities (takeTerms n ts)
+keeps-take arities zero ts k = tt
+keeps-take arities (suc n) nil k = tt
+keeps-take arities (suc n) (cons t ts) k = (k .0, keeps-take arities n ts (k .1))
+
+pub keeps-drop : (arities : List ℕ) (n : ℕ) (ts : Terms) → Keepss arities ts → Keepss arities (dropTerms n ts)
+keeps-drop arities zero ts k = k
+keeps-drop arities (suc n) nil k = tt
+keeps-drop arities (suc n) (cons t ts) k = keeps-drop arities n ts (k .1)
+
 -- a function cell takes its arguments from the terms behind it
 pub before-function : (arities : List ℕ) (f : ℕ) (ts : Terms) → f < firstVariable
     → before arities f ts ≡ cons (app f (takeTerms (getD arities f 0) ts)) (dropTerms (getD arities f 0) ts)

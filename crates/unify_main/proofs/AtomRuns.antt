@@ -1,45 +1,20 @@
 -- Runs that are terms, a cell at a time: the first cell, and the terms behind it.
-use Prim.Native.Nat.{ℕ, zero, suc, _+_, _-_, _≤_, _<_}
+use Prim.Native.Nat.{ℕ, _+_, _-_, _≤_, _<_}
 use mathlib.Core.Path.{_≡_, refl, sym, ap, ap₂, _∙_}
 use mathlib.Core.Bool.{Bool, true}
-use mathlib.Core.List.{List, [], _∷_, _++_, append-assoc}
+use mathlib.Core.List.{List, [], _∷_}
 use native.Mathlib.Omega.{arith}
 use lib.ListN.{length, getD}
-use Rattle.terms.specs.Term.{Terms, var, app, nil, cons, count}
-use Rattle.terms.specs.Cells.{firstVariable, variables, atomCells, enc, encs, Keepss, takeTerms, dropTerms, Run}
+use Rattle.terms.specs.Term.{var, app, nil, cons, count}
+use Rattle.terms.specs.Cells.{firstVariable, variables, atomCells, enc, encs, takeTerms, dropTerms, Run}
 use Rattle.terms.specs.Store.{noPlace, cellsAt}
 use Rattle.terms.specs.Walk.{Cells}
 use Rattle.terms.specs.Unified.{Unification}
+use Rattle.terms.proofs.Runs.{encs-split, count-take, count-drop, keeps-take, keeps-drop}
 use Rattle.terms.proofs.Steps.{behind, behind-cons}
 use Rattle.terms.proofs.Binding.{cells-encs}
 use Rattle.terms.proofs.Comparing.{same-inside}
 use Rattle.unify_main.specs.AtomRun.{TermsRun, AtomRun, Bindings}
-
--- the first n of at least n terms, and the others
-pub encs-split : (ts : Terms) (n : ℕ) → encs (takeTerms n ts) ++ encs (dropTerms n ts) ≡ encs ts
-encs-split ts zero = refl
-encs-split nil (suc n) = refl
-encs-split (cons t ts) (suc n) = rw append-assoc (ap (λ (l : List ℕ). enc t ++ l) (encs-split ts n))
-
-count-take : (ts : Terms) (n : ℕ) → n ≤ count ts → count (takeTerms n ts) ≡ n
-count-take ts zero h = refl
-count-take nil (suc n) h = absurd (omega arith)
-count-take (cons t ts) (suc n) h = ap suc (count-take ts n (omega arith))
-
-count-drop : (ts : Terms) (n : ℕ) → n ≤ count ts → n + count (dropTerms n ts) ≡ count ts
-count-drop ts zero h = omega arith
-count-drop nil (suc n) h = absurd (omega arith)
-count-drop (cons t ts) (suc n) h = omega (arith, count-drop ts n (omega arith))
-
-keeps-take : (F : List ℕ) (ts : Terms) (n : ℕ) → Keepss F ts → Keepss F (takeTerms n ts)
-keeps-take F ts zero k = tt
-keeps-take F nil (suc n) k = tt
-keeps-take F (cons t ts) (suc n) k = (k .0, keeps-take F ts n (k .1))
-
-keeps-drop : (F : List ℕ) (ts : Terms) (n : ℕ) → Keepss F ts → Keepss F (dropTerms n ts)
-keeps-drop F ts zero k = k
-keeps-drop F nil (suc n) k = tt
-keeps-drop F (cons t ts) (suc n) k = keeps-drop F ts n (k .1)
 
 module _ (F : List ℕ) where
   -- no cells are no terms
@@ -65,12 +40,12 @@ module _ (F : List ℕ) where
   function-first [] n s p h l r = absurd (omega arith)
   function-first (c ∷ cs) n s p h l r =
       let k = getD F c 0 in
-      let q : k ≤ count (r .terms) = omega (arith, r .many) in
+      let e : count (r .terms) ≡ k + (n - 1) = omega (arith, r .many) in
       record {
         terms = cons (app c (takeTerms k (r .terms))) (dropTerms k (r .terms));
-        is = ap (_∷_ c) (sym (behind-cons c cs) ∙ r .is ∙ sym (encs-split (r .terms) k));
-        keeps = ((l, h, count-take (r .terms) k q, keeps-take F (r .terms) k (r .keeps)), keeps-drop F (r .terms) k (r .keeps));
-        many = omega (arith, count-drop (r .terms) k q, r .many);
+        is = ap (_∷_ c) (sym (behind-cons c cs) ∙ r .is ∙ sym (encs-split k (r .terms)));
+        keeps = ((l, h, count-take k (n - 1) (r .terms) e, keeps-take F k (r .terms) (r .keeps)), keeps-drop F k (r .terms) (r .keeps));
+        many = omega (arith, count-drop k (n - 1) (r .terms) e);
       }
 
 -- a predicate's cell, and its arguments behind it
