@@ -2,8 +2,8 @@
 use crate::layout::GOAL_CELLS;
 use crate::layout::GOAL_GROUND;
 use crate::layout::GOAL_START;
-use crate::numbers::narrow;
 use crate::places::atom_cells;
+use terms::walk::narrow;
 use terms::walk::wide;
 ghost use mathlib.Core.Path.{_≡_};
 ghost use Prim.Native.Nat.{_≤_};

@@ -1,5 +1,6 @@
 // Variables numbered by first appearance.
 use terms::walk::FIRST_VARIABLE;
+use terms::walk::narrow;
 use terms::walk::wide;
 ghost use mathlib.Core.Path.{_≡_};
 ghost use mathlib.Core.List.{[]};
@@ -7,14 +8,6 @@ ghost use Prim.Native.Nat.{ℕ, _+_, _<_, _≤_};
 ghost use lib.ListN.{length, getD, replicate};
 ghost use Rattle.terms.specs.Walk.{Cells};
 ghost use Rattle.directory.specs.Numbers.{metCells, Numbered, renamed, numberIn, In-table, Renumbered};
-
-// A count or a place as a word.
-pub fn narrow(x: usize) -> u16
-    requires { ⌜ x < 65536 ⌝ }
-    ensures { λ r. ⌜ r ≡ x ⌝ }
-{
-    x as u16
-}
 
 // Numbers the variables of a run by first appearance: the table gets 1 + the number of each. How many there are.
 pub fn numbers(run: &[u16], table: &mut [u16; 16]) -> usize

@@ -19,14 +19,6 @@ ghost use Rattle.marks.specs.Passing.{MarkedIn};
 ghost use Rattle.program.specs.Shapes.{number};
 ghost use Rattle.steps.specs.Situation.{Meeting, Met, AnAtom, AtomRun};
 
-// A number as a word.
-pub fn narrow(x: usize) -> u16
-    requires { ⌜ x < 65536 ⌝ }
-    ensures { λ r. ⌜ r ≡ x ⌝ }
-{
-    x as u16
-}
-
 // The shape is the first atom, the atom at so many words from the start on the second.
 pub fn meet<'a>(
     words: &'a [u16],

@@ -1,10 +1,10 @@
 // A call row and a cont row for a body atom.
-use crate::meet::narrow;
 use directory::layout::BODY_LIST;
 use directory::layout::BODY_SHAPE;
 use marks::rows::kept;
 use marks::rows::renumber;
 use rows::store::add;
+use terms::walk::narrow;
 ghost use Prim.Native.Nat.{_≤_};
 ghost use Rattle.marks.specs.Modes.{modes};
 ghost use Rattle.rows.specs.Rows.{keysOf};

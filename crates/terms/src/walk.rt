@@ -17,6 +17,14 @@ pub fn wide(x: u16) -> usize
     x as usize
 }
 
+// A count or a place as a word.
+pub fn narrow(x: usize) -> u16
+    requires { ⌜ x < 65536 ⌝ }
+    ensures { λ r. ⌜ r ≡ x ⌝ }
+{
+    x as u16
+}
+
 // Where the first n terms of the run end: how many cells they have.
 pub fn terms_end(run: &[u16], functions: &[u16], n: usize) -> usize
     requires { ⌜ Run (now functions) (now run) n ⌝ }
