@@ -18,7 +18,6 @@ use steps::since::any_since;
 use terms::walk::wide;
 ghost use mathlib.Core.Path.{_≡_};
 ghost use mathlib.Core.List.{List};
-ghost use mathlib.Core.Bool.{true};
 ghost use Prim.Native.Nat.{ℕ, suc, _+_, _≤_, _<_};
 ghost use lib.ListN.{length, replicate};
 ghost use Rattle.marks.specs.Modes.{modes};
@@ -89,17 +88,18 @@ fn head_marks<'a>(
     before: usize,
     k: usize,
     found: &mut [u16],
-) -> bool
+)
     requires { ⌜ HeadAsked (now words) (now dir) (now table) (now heads) since before k × (length (now found) ≡ setWords)
         × (now seen ≡ replicate setWords 0) × (length (now answers) ≡ 4096) ⌝ }
-    ensures { λ r. ⌜ (r ≡ true) × (now (seen .exit) ≡ replicate setWords 0)
+    ensures { λ _. ⌜ (now (seen .exit) ≡ replicate setWords 0)
         × ((w : HeadAsked (now (words .entry)) (now (dir .entry)) (now (table .entry)) (now (heads .entry)) since before k)
         → Marked (HeadMark (w .situation .p) (now (table .entry)) since before k (length (w .clause .c .body))) (now (found .entry)) (now (found .exit))) ⌝ }
 {
     let first = wide(dir[CLAUSE_FIRST + k]);
     let end = wide(dir[CLAUSE_FIRST + k + 1]);
     if first == end {
-        return mark_head(words, dir, table, heads, since, k, found, before);
+        mark_head(words, dir, table, heads, since, k, found, before);
+        return;
     }
     let there = first_variables(wide(dir[CLAUSE_VARS + k]));
     last_place(
@@ -114,7 +114,7 @@ fn head_marks<'a>(
         end - 1,
         there,
         found,
-    )
+    );
 }
 
 // Rule 3 for clause k. Where a call row is new it goes over all marks on the head again, for the new call's sake.
@@ -139,13 +139,12 @@ fn end_clause<'a>(
         (AtEnd (w .situation .p) (keysOf (now (table .entry)) (at .since)) (keysOf (now (table .entry)) (at .rows)) k) r (now (table .exit)) (now (buckets .exit))) ⌝ }
 {
     let before = at.rows;
-    let room = at.room;
     let mut since = at.since;
     let predicate = wide(words[wide(dir[CLAUSE_HEAD + k])]);
     if any_since(dir, heads, predicate, 0, since) {
         since = 0;
     }
-    if !head_marks(
+    head_marks(
         words,
         dir,
         table,
@@ -156,9 +155,7 @@ fn end_clause<'a>(
         before,
         k,
         found,
-    ) {
-        return room + 2;
-    }
+    );
     let rows = solve(words, dir, table, buckets, heads, n, at, k, found);
     clear(found, ((1usize << wide(dir[CLAUSE_VARS + k])) + 15) / 16);
     rows

@@ -29,7 +29,6 @@ ghost use Rattle.steps.specs.Situation.{Situation, FirstAsked, HeadAsked};
 ghost use Rattle.steps.specs.Steps.{RowsIn, Writable, Stepped};
 ghost use Rattle.steps.specs.Heads.{HeadMark, Marked};
 ghost use Rattle.calling.specs.Calls.{OpenedBy, Emits, EmitAsked, MarkAsked, FirstShape, MarkShape};
-ghost use mathlib.Core.Bool.{true};
 
 // The new call rows of one shape, to a clause with a body: rows for its first body atom.
 fn emit_shape(
@@ -59,10 +58,7 @@ fn emit_shape(
     while since < link {
         let row = link - 1;
         let q = passed(sets, 0, mask_at(table, row), here, 16, there);
-        if 65535 < q {
-            return room + 2;
-        }
-        rows = emit(dir, order, count, table, buckets, rows, at, j, q as u16);
+        rows = emit(dir, order, count, table, buckets, rows, at, j, q);
         if room < rows {
             return rows;
         }
@@ -182,22 +178,17 @@ fn mark_shape(
     there: u16,
     since: usize,
     found: &mut [u16],
-) -> bool
+)
     requires { ⌜ MarkAsked (now table) (now sets) newest here there since × (length (now found) ≡ setWords) ⌝ }
-    ensures { λ r. ⌜ (r ≡ true) × ((a : MarkAsked (now (table .entry)) (now (sets .entry)) newest here there since)
+    ensures { λ _. ⌜ ((a : MarkAsked (now (table .entry)) (now (sets .entry)) newest here there since)
         → Marked (OpenedBy (a .p) (now (table .entry)) since (a .rows) (a .k) (a .calls .s)) (now (found .entry)) (now (found .exit))) ⌝ }
 {
     let mut link = newest;
     while since < link {
         let row = link - 1;
-        let q = passed(sets, 0, mask_at(table, row), here, 16, there);
-        if 65535 < q {
-            return false;
-        }
-        insert(found, q as u16);
+        insert(found, passed(sets, 0, mask_at(table, row), here, 16, there));
         link = before_at(table, row);
     }
-    true
 }
 
 // The call rows of shape s from `since` on, where it unifies with the head of a clause: marks on the head, into the set.
@@ -212,21 +203,21 @@ fn marks_of_shape<'a>(
     cells: usize,
     there: u16,
     found: &mut [u16],
-) -> bool
+)
     requires { ⌜ MarkShape (now words) (now dir) (now table) (now heads) since s start cells there × (length (now found) ≡ setWords) ⌝ }
-    ensures { λ r. ⌜ (r ≡ true) × ((a : MarkShape (now (words .entry)) (now (dir .entry)) (now (table .entry)) (now (heads .entry)) since s start cells there)
+    ensures { λ _. ⌜ ((a : MarkShape (now (words .entry)) (now (dir .entry)) (now (table .entry)) (now (heads .entry)) since s start cells there)
         → Marked (OpenedBy (a .p) (now (table .entry)) since (a .rows) (a .k) s) (now (found .entry)) (now (found .exit))) ⌝ }
 {
     let newest = wide(heads[s]);
     if newest <= since {
-        return true;
+        return;
     }
     let mut sets = [0u32; 32];
     if !meet(words, dir, s, start, cells, &mut sets) {
-        return true;
+        return;
     }
     let here = first_variables(wide(dir[SHAPE_VARS + s]));
-    mark_shape(table, newest, &sets, here, there, since, found)
+    mark_shape(table, newest, &sets, here, there, since, found);
 }
 
 // All call rows from `since` on, to clause k.
@@ -239,9 +230,9 @@ pub fn mark_head<'a>(
     k: usize,
     found: &mut [u16],
     rows: usize,
-) -> bool
+)
     requires { ⌜ HeadAsked (now words) (now dir) (now table) (now heads) since rows k × (length (now found) ≡ setWords) ⌝ }
-    ensures { λ r. ⌜ (r ≡ true) × ((w : Situation (now (words .entry)) (now (dir .entry)) (now (table .entry)) (now (heads .entry)) since rows)
+    ensures { λ _. ⌜ ((w : Situation (now (words .entry)) (now (dir .entry)) (now (table .entry)) (now (heads .entry)) since rows)
         → Marked (HeadMark (w .p) (now (table .entry)) since rows k 0) (now (found .entry)) (now (found .exit))) ⌝ }
 {
     let start = wide(dir[CLAUSE_HEAD + k]);
@@ -250,7 +241,7 @@ pub fn mark_head<'a>(
     let mut link = wide(dir[PREDICATE_SHAPE + wide(words[start])]);
     while 0 < link {
         let s = link - 1;
-        if !marks_of_shape(
+        marks_of_shape(
             words,
             dir,
             table,
@@ -261,10 +252,7 @@ pub fn mark_head<'a>(
             cells,
             there,
             found,
-        ) {
-            return false;
-        }
+        );
         link = wide(dir[SHAPE_NEXT + s]);
     }
-    true
 }

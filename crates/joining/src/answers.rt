@@ -49,11 +49,7 @@ fn of_shape(
     while from < link {
         let row = link - 1;
         if row < to {
-            let q = passed(sets, 0, mask_at(table, row), here, 16, there);
-            if 65535 < q {
-                return 65536;
-            }
-            let mask = q as u16;
+            let mask = passed(sets, 0, mask_at(table, row), here, 16, there);
             if insert(seen, mask) {
                 answers[found] = mask;
                 found += 1;
@@ -149,9 +145,6 @@ pub fn answers_to<'a>(
                 answers,
                 found,
             );
-            if 65535 < found {
-                return found;
-            }
         }
         link = wide(dir[SHAPE_NEXT + s]);
     }

@@ -26,7 +26,6 @@ ghost use Rattle.steps.specs.Situation.{Situation, BodyOf, MiddleAsked, LastAsk
 ghost use Rattle.steps.specs.Steps.{RowsIn, Writable, Stepped};
 ghost use Rattle.steps.specs.Heads.{HeadMark, Marked};
 ghost use Rattle.joining.specs.Joined.{JoinedWith, ContMarks, RowsOf, KeptOf, Reaching, AnswersThere, ContsAsked, ContsThere, Answered, BodyAsked};
-ghost use mathlib.Core.Bool.{true};
 
 // One cont row's marks with the first `upto` answers: rows for body atom j.
 fn emit_joined(
@@ -301,16 +300,16 @@ pub fn last_place<'a>(
     j: usize,
     there: u16,
     found: &mut [u16],
-) -> bool
+)
     requires { ⌜ LastAsked (now words) (now dir) (now table) (now heads) since before j there × (length (now found) ≡ setWords)
         × (now seen ≡ replicate setWords 0) × (length (now answers) ≡ 4096) ⌝ }
-    ensures { λ r. ⌜ (r ≡ true) × (now (seen .exit) ≡ replicate setWords 0)
+    ensures { λ _. ⌜ (now (seen .exit) ≡ replicate setWords 0)
         × ((w : Situation (now (words .entry)) (now (dir .entry)) (now (table .entry)) (now (heads .entry)) since before) (b : BodyOf (w .p) j)
         → Marked (HeadMark (w .p) (now (table .entry)) since before (b .k) (suc (b .i))) (now (found .entry)) (now (found .exit))) ⌝ }
 {
     let newest = wide(heads[CONTS + j]);
     if newest == 0 {
-        return true;
+        return;
     }
     let counts = list_answers(
         words,
@@ -327,5 +326,4 @@ pub fn last_place<'a>(
     let fresh = counts.fresh;
     let all = counts.all;
     mark_conts(table, newest, since, answers, fresh, all, there, found);
-    true
 }

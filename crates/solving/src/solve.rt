@@ -89,10 +89,7 @@ fn solve_shape(
     while q < marks {
         if contains(found, narrow(q)) {
             let r = passed(sets, 16, narrow(q), there, 0, here);
-            if 65535 < r {
-                return room + 2;
-            }
-            rows = solve_calls(table, buckets, rows, at, newest, slot, r as u16);
+            rows = solve_calls(table, buckets, rows, at, newest, slot, r);
             if room < rows {
                 return rows;
             }

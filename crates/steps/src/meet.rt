@@ -47,14 +47,14 @@ pub fn meet<'a>(
     )
 }
 
-// The marks that pass, or 65,536 where a mark comes out neither any nor ground.
-pub fn passed(sets: &[u32; 32], from: usize, m: u16, here: u16, to: usize, there: u16) -> u32
+// The marks that pass; none comes out neither any nor ground.
+pub fn passed(sets: &[u32; 32], from: usize, m: u16, here: u16, to: usize, there: u16) -> u16
     requires { ⌜ (from ≤ 16) × (to ≤ 16) ⌝ }
     ensures { λ r. ⌜ (r < 65536) × Marks (MarkedIn (now (sets .entry)) from m here to 0 there) r ⌝ }
 {
     match pass_on(sets, from, m, here, to, 0, there) {
-        Passed::Mask(r) => r as u32,
-        Passed::Neither => 65536,
+        Passed::Mask(r) => r,
+        Passed::Neither => 0,
     }
 }
 

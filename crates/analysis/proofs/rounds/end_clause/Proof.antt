@@ -3,7 +3,6 @@
 use Prim.Native.Nat.{ℕ, _+_, _*_, _/_, _%_, _^_, _≤_}
 use native.Mathlib.Omega.{arith}
 use mathlib.Core.Path.{_≡_, sym, ap, subst, _∙_}
-use mathlib.Core.Bool.{true, false}
 use lib.Dec.{T}
 use lib.ListN.{length, length-replicate}
 use mathlib.Core.Logic.{_⊎_, inl, inr, ⊎-elim}
@@ -70,8 +69,37 @@ head-marks-requires c κs = let s = c .before .before .before .before .before .b
   s .pre .3 .all-answers,
 )
 
-add-result : tie.Need-add-result
-add-result c = search needs
+solve-requires : tie.Need-solve-requires
+solve-requires c κs = let s = c .before .before .before .before .before .before .before .before .before .before .before .before .before .before .before .before .before .before .before .before .before .before .before .before .before .before .before .before in (
+  solve-asked _ _ _ _ _ _ _ (s .pre .0) (c .before .before .before .before .before .before .before .before .before .before .before .before .before .before .if1 .since) _
+      (marked-empty _ _ _ (s .pre .3 .none-found) (c .before .before .before .before .before .before .before .before .before .head-marks .ensures .1 (asked-since _ _ _ _ _ _ _ (s .pre .0) _ (since-within (c .before .before .before .before .before .before .before .before .before .before .before .before .before .before))))),
+  s .pre .1,
+  s .pre .2,
+)
+
+add-wide-2 : tie.Need-add-wide-2
+add-wide-2 c = let s = c .before .before .before .before .before .before .before .before .before .before .before .before .before .before .before .before .before .before .before .before .before .before .before .before .before .before .before .before .before .before .before .before .before .before in let few = clause-few _ _ _ _ _ _ _ (s .pre .0) in omega (arith, few .0, few .1)
+
+mul-wide-3 : tie.Need-mul-wide-3
+mul-wide-3 c = let s = c .before .before .before .before .before .before .before .before .before .before .before .before .before .before .before .before .before .before .before .before .before .before .before .before .before .before .before .before .before .before .before .before .before .before in let few = clause-few _ _ _ _ _ _ _ (s .pre .0) in omega (arith, few .0, few .1)
+
+shared-slice-read-wide-3 : tie.Need-shared-slice-read-wide-3
+shared-slice-read-wide-3 c = let s = c .before .before .before .before .before .before .before .before .before .before .before .before .before .before .before .before .before .before .before .before .before .before .before .before .before .before .before .before .before .before .before .before .before .before .before in let few = clause-few _ _ _ _ _ _ _ (s .pre .0) in omega (arith, few .0, few .1)
+
+wide-requires-3 : tie.Need-wide-requires-3
+wide-requires-3 c κs = search needs
+
+shl-clear : tie.Need-shl-clear
+shl-clear c = omega (arith, c .wide3 .ensures .0, vars-few _ _ _ _ _ _ _ (c .before .before .before .before .before .before .before .before .before .before .before .before .before .before .before .before .before .before .before .before .before .before .before .before .before .before .before .before .before .before .before .before .before .before .before .before .pre .0))
+
+add-clear : tie.Need-add-clear
+add-clear c = let l : c .wide3 .result ≤ 16 = omega (arith, c .wide3 .ensures .0, vars-few _ _ _ _ _ _ _ (c .before .before .before .before .before .before .before .before .before .before .before .before .before .before .before .before .before .before .before .before .before .before .before .before .before .before .before .before .before .before .before .before .before .before .before .before .pre .0)) in
+    let m = marks-shifted (c .wide3 .result) l in omega (arith, m .0, m .1)
+
+clear-requires : tie.Need-clear-requires
+clear-requires c κs = let l : c .wide3 .result ≤ 16 = omega (arith, c .wide3 .ensures .0, vars-few _ _ _ _ _ _ _ (c .before .before .before .before .before .before .before .before .before .before .before .before .before .before .before .before .before .before .before .before .before .before .before .before .before .before .before .before .before .before .before .before .before .before .before .before .pre .0)) in
+    let m = marks-shifted (c .wide3 .result) l in
+    omega (arith, m .0, m .1, c .before .before .before .before .before .before .before .before .before .before .before .before .before .before .before .before .before .head-marks .ensures .1 (asked-since _ _ _ _ _ _ _ (c .before .before .before .before .before .before .before .before .before .before .before .before .before .before .before .before .before .before .before .before .before .before .before .before .before .before .before .before .before .before .before .before .before .before .before .before .pre .0) _ (since-within (c .before .before .before .before .before .before .before .before .before .before .before .before .before .before .before .before .before .before .before .before .before .before))) .size)
 
 same-length : tie.Need-same-length
 same-length c = search needs
@@ -85,74 +113,27 @@ same-length-3 c = search needs
 same-length-4 : tie.Need-same-length-4
 same-length-4 c = search needs
 
-returns : tie.Need-returns
-returns c = let h : false ≡ true = rw (c .before .before .before .before .before .before .before .head-marks .ensures .0) at (c .if2 .taken) in absurd (subst T (sym h) tt)
-
-solve-requires : tie.Need-solve-requires
-solve-requires c κs = let s = c .before .before .before .before .before .before .before .before .before .before .before .before .before .before .before .before .before .before .before .before .before .before .before .before .before .before .before .before .before in (
-  solve-asked _ _ _ _ _ _ _ (s .pre .0) (c .before .before .before .before .before .before .before .before .before .before .before .before .before .before .before .if1 .since) _
-      (marked-empty _ _ _ (s .pre .3 .none-found) (c .before .before .before .before .before .before .before .before .before .before .head-marks .ensures .2 (asked-since _ _ _ _ _ _ _ (s .pre .0) _ (since-within (c .before .before .before .before .before .before .before .before .before .before .before .before .before .before .before))))),
-  s .pre .1,
-  s .pre .2,
-)
-
-add-wide-2 : tie.Need-add-wide-2
-add-wide-2 c = let s = c .before .before .before .before .before .before .before .before .before .before .before .before .before .before .before .before .before .before .before .before .before .before .before .before .before .before .before .before .before .before .before .before .before .before .before in let few = clause-few _ _ _ _ _ _ _ (s .pre .0) in omega (arith, few .0, few .1)
-
-mul-wide-3 : tie.Need-mul-wide-3
-mul-wide-3 c = let s = c .before .before .before .before .before .before .before .before .before .before .before .before .before .before .before .before .before .before .before .before .before .before .before .before .before .before .before .before .before .before .before .before .before .before .before in let few = clause-few _ _ _ _ _ _ _ (s .pre .0) in omega (arith, few .0, few .1)
-
-shared-slice-read-wide-3 : tie.Need-shared-slice-read-wide-3
-shared-slice-read-wide-3 c = let s = c .before .before .before .before .before .before .before .before .before .before .before .before .before .before .before .before .before .before .before .before .before .before .before .before .before .before .before .before .before .before .before .before .before .before .before .before in let few = clause-few _ _ _ _ _ _ _ (s .pre .0) in omega (arith, few .0, few .1)
-
-wide-requires-3 : tie.Need-wide-requires-3
-wide-requires-3 c κs = search needs
-
-shl-clear : tie.Need-shl-clear
-shl-clear c = omega (arith, c .wide3 .ensures .0, vars-few _ _ _ _ _ _ _ (c .before .before .before .before .before .before .before .before .before .before .before .before .before .before .before .before .before .before .before .before .before .before .before .before .before .before .before .before .before .before .before .before .before .before .before .before .before .pre .0))
-
-add-clear : tie.Need-add-clear
-add-clear c = let l : c .wide3 .result ≤ 16 = omega (arith, c .wide3 .ensures .0, vars-few _ _ _ _ _ _ _ (c .before .before .before .before .before .before .before .before .before .before .before .before .before .before .before .before .before .before .before .before .before .before .before .before .before .before .before .before .before .before .before .before .before .before .before .before .before .pre .0)) in
-    let m = marks-shifted (c .wide3 .result) l in omega (arith, m .0, m .1)
-
-clear-requires : tie.Need-clear-requires
-clear-requires c κs = let l : c .wide3 .result ≤ 16 = omega (arith, c .wide3 .ensures .0, vars-few _ _ _ _ _ _ _ (c .before .before .before .before .before .before .before .before .before .before .before .before .before .before .before .before .before .before .before .before .before .before .before .before .before .before .before .before .before .before .before .before .before .before .before .before .before .pre .0)) in
-    let m = marks-shifted (c .wide3 .result) l in
-    omega (arith, m .0, m .1, c .before .before .before .before .before .before .before .before .before .before .before .before .before .before .before .before .before .before .head-marks .ensures .2 (asked-since _ _ _ _ _ _ _ (c .before .before .before .before .before .before .before .before .before .before .before .before .before .before .before .before .before .before .before .before .before .before .before .before .before .before .before .before .before .before .before .before .before .before .before .before .before .pre .0) _ (since-within (c .before .before .before .before .before .before .before .before .before .before .before .before .before .before .before .before .before .before .before .before .before .before .before))) .size)
-
 same-length-5 : tie.Need-same-length-5
 same-length-5 c = search needs
 
-same-length-6 : tie.Need-same-length-6
-same-length-6 c = search needs
-
-same-length-7 : tie.Need-same-length-7
-same-length-7 c = search needs
-
-same-length-8 : tie.Need-same-length-8
-same-length-8 c = search needs
-
-same-length-9 : tie.Need-same-length-9
-same-length-9 c = search needs
-
-returns-2 : tie.Need-returns-2
-returns-2 c =
-    let s = c .before .before .before .before .before .before .before .before .before .before .before .before .before .before .before .before .before .before .before .before .before .before .before .before .before .before .before .before .before .before .before .before .before .before .before .before .before .before .before .before in
-    let hm = c .before .before .before .before .before .before .before .before .before .before .before .before .before .before .before .before .before .before .before .before .before .head-marks in
+returns : tie.Need-returns
+returns c =
+    let s = c .before .before .before .before .before .before .before .before .before .before .before .before .before .before .before .before .before .before .before .before .before .before .before .before .before .before .before .before .before .before .before .before .before .before .before .before .before .before .before in
+    let hm = c .before .before .before .before .before .before .before .before .before .before .before .before .before .before .before .before .before .before .before .before .head-marks in
     let v = c .before .before .before .wide3 in
     let l : v .result ≤ 16 = omega (arith, v .ensures .0, vars-few _ _ _ _ _ _ _ (s .pre .0)) in
     let m = marks-shifted (v .result) l in
     let few : (1 * 2 ^ v .result % 18446744073709551616 + 15) / 16 ≤ setWords = omega (arith, m .0, m .1) in
-    let marks = marked-empty _ _ _ (s .pre .3 .none-found) (hm .ensures .2 (asked-since _ _ _ _ _ _ _ (s .pre .0) _ (since-within (c .before .before .before .before .before .before .before .before .before .before .before .before .before .before .before .before .before .before .before .before .before .before .before .before .before .before)))) in (
+    let marks = marked-empty _ _ _ (s .pre .3 .none-found) (hm .ensures .1 (asked-since _ _ _ _ _ _ _ (s .pre .0) _ (since-within (c .before .before .before .before .before .before .before .before .before .before .before .before .before .before .before .before .before .before .before .before .before .before .before .before .before)))) in (
       record {
-        none-seen = hm .ensures .1;
+        none-seen = hm .ensures .0;
         all-answers = hm .kept .1 .1 .1 .1 .1 .0 ∙ s .pre .3 .all-answers;
-        none-found = c .before .before .clear .ensures ∙ cleared-empty _ _ (marks .size) few (λ i. c .before .before .before .before .before .before .before .before .before .before .before .before .before .before .before .slice-known8 .given i .fits)
+        none-found = c .before .before .clear .ensures ∙ cleared-empty _ _ (marks .size) few (λ i. c .before .before .before .before .before .before .before .before .before .before .before .before .before .before .slice-known8 .given i .fits)
             (λ q h. rw (m .0, v .ensures .0) (found-words _ _ _ _ _ _ _ (s .pre .0) _ _ marks _ (vars-head _ _ _ _ _ _ _ (s .pre .0)) q h));
       },
       λ w.
-          let marks′ = marked-empty _ _ _ (s .pre .3 .none-found) (hm .ensures .2 (asked-since _ _ _ _ _ _ _ w _ (since-within (c .before .before .before .before .before .before .before .before .before .before .before .before .before .before .before .before .before .before .before .before .before .before .before .before .before .before)))) in
-          stepped-must _ _ (s .args .at .number) _ _ _ _ _ _ _ _ _ (ends-solved _ _ _ _ _ _ _ w _ _ marks′ (which (c .before .before .before .before .before .before .before .before .before .before .before .before .before .before .before .before .before .before .before .before .before .before .before .before .before .before) w)) (c .before .before .before .before .before .before .before .before .before .before .solve .ensures (w .situation)),
+          let marks′ = marked-empty _ _ _ (s .pre .3 .none-found) (hm .ensures .1 (asked-since _ _ _ _ _ _ _ w _ (since-within (c .before .before .before .before .before .before .before .before .before .before .before .before .before .before .before .before .before .before .before .before .before .before .before .before .before)))) in
+          stepped-must _ _ (s .args .at .number) _ _ _ _ _ _ _ _ _ (ends-solved _ _ _ _ _ _ _ w _ _ marks′ (which (c .before .before .before .before .before .before .before .before .before .before .before .before .before .before .before .before .before .before .before .before .before .before .before .before .before) w)) (c .before .before .before .before .before .before .before .before .before .before .solve .ensures (w .situation)),
     )
 
 pub end-clause-spec : {M : Type 1} → statement M
@@ -168,12 +149,6 @@ end-clause-spec =
     wide-requires-2
     any-since-requires
     head-marks-requires
-    add-result
-    same-length
-    same-length-2
-    same-length-3
-    same-length-4
-    returns
     solve-requires
     add-wide-2
     mul-wide-3
@@ -182,9 +157,9 @@ end-clause-spec =
     shl-clear
     add-clear
     clear-requires
+    same-length
+    same-length-2
+    same-length-3
+    same-length-4
     same-length-5
-    same-length-6
-    same-length-7
-    same-length-8
-    same-length-9
-    returns-2)
+    returns)

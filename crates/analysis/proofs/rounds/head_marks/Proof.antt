@@ -40,11 +40,10 @@ same-length c = search needs
 
 returns : tie.Need-returns
 returns c = let s = c .before .before .before .before .before .before .before .before .before .before .before .before .before .before .before .before in (
-  c .before .before .mark-head .ensures .0,
   s .pre .2,
   λ w.
       let none = no-body _ _ _ _ _ _ _ w _ _ (c .before .before .before .before .before .before .before .wide .ensures .0) (c .before .before .before .before .before .wide2 .ensures .0) (c .before .before .before .before .if1 .taken) in
-      rw none (c .before .before .mark-head .ensures .1 (w .situation)),
+      rw none (c .before .before .mark-head .ensures (w .situation)),
 )
 
 add-wide-4 : tie.Need-add-wide-4
@@ -83,9 +82,8 @@ same-length-4 c = search needs
 returns-2 : tie.Need-returns-2
 returns-2 c = let call = c .before .before .before .before .before .before .last-place in (
   call .ensures .0,
-  call .ensures .1,
   λ w.
-      last-marked _ _ _ _ _ _ _ w _ _ (c .before .before .before .before .before .before .before .before .before .before .before .before .before .before .before .before .wide .ensures .0) (c .before .before .before .before .before .before .before .before .before .before .before .before .before .before .wide2 .ensures .0) (some-body _ _ _ _ _ _ _ w _ _ (c .before .before .before .before .before .before .before .before .before .before .before .before .before .before .before .before .wide .ensures .0) (c .before .before .before .before .before .before .before .before .before .before .before .before .before .before .wide2 .ensures .0) (c .before .before .before .before .before .before .before .before .before .before .before .before .before .if1 .left)) _ _ (call .ensures .2),
+      last-marked _ _ _ _ _ _ _ w _ _ (c .before .before .before .before .before .before .before .before .before .before .before .before .before .before .before .before .wide .ensures .0) (c .before .before .before .before .before .before .before .before .before .before .before .before .before .before .wide2 .ensures .0) (some-body _ _ _ _ _ _ _ w _ _ (c .before .before .before .before .before .before .before .before .before .before .before .before .before .before .before .before .wide .ensures .0) (c .before .before .before .before .before .before .before .before .before .before .before .before .before .before .wide2 .ensures .0) (c .before .before .before .before .before .before .before .before .before .before .before .before .before .if1 .left)) _ _ (call .ensures .1),
 )
 
 pub head-marks-spec : {M : Type 1} → statement M

@@ -31,81 +31,66 @@ mask-at-requires c κs =
 passed-requires : tie.Need-passed-requires Inv-loop μ-loop
 passed-requires c κs = search needs
 
-add-result : tie.Need-add-result Inv-loop μ-loop
-add-result c = omega (arith, c .before .before .before .before .before .before .before .before .before .pre .1 .room-most)
-
-same-length : tie.Need-same-length Inv-loop μ-loop
-same-length c = c .before .before .before .before .before .loop .inv .0
-
-same-length-2 : tie.Need-same-length-2 Inv-loop μ-loop
-same-length-2 c = c .before .before .before .before .before .loop .inv .1
-
-returns : tie.Need-returns Inv-loop μ-loop
-returns c = absurd (omega (arith, c .before .passed .ensures .0, c .if1 .taken))
-
-cast-emit : tie.Need-cast-emit Inv-loop μ-loop
-cast-emit c = omega (arith, c .before .before .before .passed .ensures .0)
-
 emit-requires : tie.Need-emit-requires Inv-loop μ-loop
 emit-requires c κs =
-    let (asked, writable, behind) = c .before .before .before .before .before .before .before .before .before .before .before .pre in
-    let w = c .before .before .before .before .before .before .before .loop .inv .2 asked in
+    let (asked, writable, behind) = c .before .before .before .before .before .before .before .before .before .before .pre in
+    let w = c .before .before .before .before .before .before .loop .inv .2 asked in
     (asked .place, w .grew .writable, omega (arith, behind, w .grew .more))
 
-same-length-3 : tie.Need-same-length-3 Inv-loop μ-loop
-same-length-3 c = c .before .before .before .before .before .emit .kept .1 .1 .1 .0 ∙ c .before .before .before .before .before .before .before .before .before .before .before .before .before .loop .inv .0
+same-length : tie.Need-same-length Inv-loop μ-loop
+same-length c = c .before .before .before .before .before .emit .kept .1 .1 .1 .0 ∙ c .before .before .before .before .before .before .before .before .before .before .before .before .loop .inv .0
 
-same-length-4 : tie.Need-same-length-4 Inv-loop μ-loop
-same-length-4 c = c .before .before .before .before .before .emit .kept .1 .1 .1 .1 .0 ∙ c .before .before .before .before .before .before .before .before .before .before .before .before .before .loop .inv .1
+same-length-2 : tie.Need-same-length-2 Inv-loop μ-loop
+same-length-2 c = c .before .before .before .before .before .emit .kept .1 .1 .1 .1 .0 ∙ c .before .before .before .before .before .before .before .before .before .before .before .before .loop .inv .1
 
-returns-2 : tie.Need-returns-2 Inv-loop μ-loop
-returns-2 c =
+returns : tie.Need-returns Inv-loop μ-loop
+returns c =
     λ a.
-    let taken = c .before .before .before .before .before .before .before .before .before .before .before .before .loop-test .taken in
-    let w = c .before .before .before .before .before .before .before .before .before .before .before .before .before .loop .inv .2 a in
-    let marks = rw (c .before .before .before .before .before .before .before .before .before .before .mask-at .ensures) at (c .before .before .before .before .before .before .before .before .before .passed .ensures .1) in
-    walking-full a _ _ _ _ (c .before .before .before .before .before .before .before .before .before .before .before .before .before .before .before .before .before .pre .2) w (c .before .before .before .before .before .before .before .before .before .before .before .before .before .loop .link - 1) (omega arith) (c .before .before .before .before .before .before .before .before .before .passed .result) (omega arith) marks
-    (c .before .before .before .before .before .emit .ensures (a .place) (walking-reached a _ _ _ _ (c .before .before .before .before .before .before .before .before .before .before .before .before .before .before .before .before .before .pre .2) w (c .before .before .before .before .before .before .before .before .before .before .before .before .before .loop .link - 1) (omega arith) (c .before .before .before .before .before .before .before .before .before .passed .result) (omega arith) marks))
-    (c .if2 .taken) _
+    let taken = c .before .before .before .before .before .before .before .before .before .before .before .loop-test .taken in
+    let w = c .before .before .before .before .before .before .before .before .before .before .before .before .loop .inv .2 a in
+    let marks = rw (c .before .before .before .before .before .before .before .before .before .mask-at .ensures) at (c .before .before .before .before .before .before .before .before .passed .ensures .1) in
+    walking-full a _ _ _ _ (c .before .before .before .before .before .before .before .before .before .before .before .before .before .before .before .before .pre .2) w (c .before .before .before .before .before .before .before .before .before .before .before .before .loop .link - 1) (omega arith) (c .before .before .before .before .before .before .before .before .passed .result) (omega arith) marks
+    (c .before .before .before .before .before .emit .ensures (a .place) (walking-reached a _ _ _ _ (c .before .before .before .before .before .before .before .before .before .before .before .before .before .before .before .before .pre .2) w (c .before .before .before .before .before .before .before .before .before .before .before .before .loop .link - 1) (omega arith) (c .before .before .before .before .before .before .before .before .passed .result) (omega arith) marks))
+    (c .if1 .taken) _
 
 before-at-requires : tie.Need-before-at-requires Inv-loop μ-loop
 before-at-requires c κs =
-    let (asked, writable, behind) = c .before .before .before .before .before .before .before .before .before .before .before .before .before .before .before .before .before .before .pre in
+    let (asked, writable, behind) = c .before .before .before .before .before .before .before .before .before .before .before .before .before .before .before .before .before .pre in
     rw (c .before .before .before .before .before .before .emit .kept .1 .1 .1 .0)
-    (walking-there asked _ _ _ _ behind (c .before .before .before .before .before .before .before .before .before .before .before .before .before .before .loop .inv .2 asked) (c .before .before .before .before .before .before .before .before .before .before .before .before .before .before .loop .link - 1) (omega (arith, c .before .before .before .before .before .before .before .before .before .before .before .before .before .loop-test .taken)))
+    (walking-there asked _ _ _ _ behind (c .before .before .before .before .before .before .before .before .before .before .before .before .before .loop .inv .2 asked) (c .before .before .before .before .before .before .before .before .before .before .before .before .before .loop .link - 1) (omega (arith, c .before .before .before .before .before .before .before .before .before .before .before .before .loop-test .taken)))
 
 loop-less : tie.Need-loop-less Inv-loop μ-loop
 loop-less c =
-    let (asked, writable, behind) = c .before .before .before .before .before .before .before .before .before .before .before .before .before .before .before .before .before .before .before .pre in
-    let taken = c .before .before .before .before .before .before .before .before .before .before .before .before .before .before .loop-test .taken in
-    let w = c .before .before .before .before .before .before .before .before .before .before .before .before .before .before .before .loop .inv .2 asked in
-    let marks = rw (c .before .before .before .before .before .before .before .before .before .before .before .before .mask-at .ensures) at (c .before .before .before .before .before .before .before .before .before .before .before .passed .ensures .1) in
-    walking-nearer asked _ _ _ _ behind w (c .before .before .before .before .before .before .before .before .before .before .before .before .before .before .before .loop .link - 1) (omega arith) (c .before .before .before .before .before .before .before .before .before .before .before .passed .result) (omega arith) marks
-    (c .before .before .before .before .before .before .before .emit .ensures (asked .place) (walking-reached asked _ _ _ _ behind w (c .before .before .before .before .before .before .before .before .before .before .before .before .before .before .before .loop .link - 1) (omega arith) (c .before .before .before .before .before .before .before .before .before .before .before .passed .result) (omega arith) marks))
-    (c .before .before .if2 .left) _ (c .before-at .ensures)
+    let (asked, writable, behind) = c .before .before .before .before .before .before .before .before .before .before .before .before .before .before .before .before .before .before .pre in
+    let taken = c .before .before .before .before .before .before .before .before .before .before .before .before .before .loop-test .taken in
+    let w = c .before .before .before .before .before .before .before .before .before .before .before .before .before .before .loop .inv .2 asked in
+    let marks = rw (c .before .before .before .before .before .before .before .before .before .before .before .mask-at .ensures) at (c .before .before .before .before .before .before .before .before .before .before .passed .ensures .1) in
+    walking-nearer asked _ _ _ _ behind w (c .before .before .before .before .before .before .before .before .before .before .before .before .before .before .loop .link - 1) (omega arith) (c .before .before .before .before .before .before .before .before .before .before .passed .result) (omega arith) marks
+    (c .before .before .before .before .before .before .before .emit .ensures (asked .place) (walking-reached asked _ _ _ _ behind w (c .before .before .before .before .before .before .before .before .before .before .before .before .before .before .loop .link - 1) (omega arith) (c .before .before .before .before .before .before .before .before .before .before .passed .result) (omega arith) marks))
+    (c .before .before .if1 .left) _ (c .before-at .ensures)
 
 loop-again : tie.Need-loop-again Inv-loop μ-loop
 loop-again c = (
-  c .before .before .before .before .before .before .before .emit .kept .1 .1 .1 .0 ∙ c .before .before .before .before .before .before .before .before .before .before .before .before .before .before .before .loop .inv .0,
-  c .before .before .before .before .before .before .before .emit .kept .1 .1 .1 .1 .0 ∙ c .before .before .before .before .before .before .before .before .before .before .before .before .before .before .before .loop .inv .1,
+  c .before .before .before .before .before .before .before .emit .kept .1 .1 .1 .0 ∙ c .before .before .before .before .before .before .before .before .before .before .before .before .before .before .loop .inv .0,
+  c .before .before .before .before .before .before .before .emit .kept .1 .1 .1 .1 .0 ∙ c .before .before .before .before .before .before .before .before .before .before .before .before .before .before .loop .inv .1,
   λ a.
-      let taken = c .before .before .before .before .before .before .before .before .before .before .before .before .before .before .loop-test .taken in
-      let behind = c .before .before .before .before .before .before .before .before .before .before .before .before .before .before .before .before .before .before .before .pre .2 in
-      let w = c .before .before .before .before .before .before .before .before .before .before .before .before .before .before .before .loop .inv .2 a in
-      let marks = rw (c .before .before .before .before .before .before .before .before .before .before .before .before .mask-at .ensures) at (c .before .before .before .before .before .before .before .before .before .before .before .passed .ensures .1) in
-      walking-on a _ _ _ _ behind w (c .before .before .before .before .before .before .before .before .before .before .before .before .before .before .before .loop .link - 1) (omega arith) (c .before .before .before .before .before .before .before .before .before .before .before .passed .result) (omega arith) marks
-      (c .before .before .before .before .before .before .before .emit .ensures (a .place) (walking-reached a _ _ _ _ behind w (c .before .before .before .before .before .before .before .before .before .before .before .before .before .before .before .loop .link - 1) (omega arith) (c .before .before .before .before .before .before .before .before .before .before .before .passed .result) (omega arith) marks))
-      (c .before .before .if2 .left) _ (c .before-at .ensures),
+      let taken = c .before .before .before .before .before .before .before .before .before .before .before .before .before .loop-test .taken in
+      let behind = c .before .before .before .before .before .before .before .before .before .before .before .before .before .before .before .before .before .before .pre .2 in
+      let w = c .before .before .before .before .before .before .before .before .before .before .before .before .before .before .loop .inv .2 a in
+      let marks = rw (c .before .before .before .before .before .before .before .before .before .before .before .mask-at .ensures) at (c .before .before .before .before .before .before .before .before .before .before .passed .ensures .1) in
+      walking-on a _ _ _ _ behind w (c .before .before .before .before .before .before .before .before .before .before .before .before .before .before .loop .link - 1) (omega arith) (c .before .before .before .before .before .before .before .before .before .before .passed .result) (omega arith) marks
+      (c .before .before .before .before .before .before .before .emit .ensures (a .place) (walking-reached a _ _ _ _ behind w (c .before .before .before .before .before .before .before .before .before .before .before .before .before .before .loop .link - 1) (omega arith) (c .before .before .before .before .before .before .before .before .before .before .passed .result) (omega arith) marks))
+      (c .before .before .if1 .left) _ (c .before-at .ensures),
 )
 
-same-length-5 : tie.Need-same-length-5 Inv-loop μ-loop
-same-length-5 c = c .before .loop .inv .0
+same-length-3 : tie.Need-same-length-3 Inv-loop μ-loop
+same-length-3 c = c .before .loop .inv .0
 
-same-length-6 : tie.Need-same-length-6 Inv-loop μ-loop
-same-length-6 c = c .before .loop .inv .1
+same-length-4 : tie.Need-same-length-4 Inv-loop μ-loop
+same-length-4 c = c .before .loop .inv .1
 
-returns-3 : tie.Need-returns-3 Inv-loop μ-loop
-returns-3 c = λ a. walking-ends a _ _ _ _ (c .before .loop .inv .2 a) (c .loop-test .left)
+returns-2 : tie.Need-returns-2 Inv-loop μ-loop
+returns-2 c = λ a. walking-ends a _ _ _ _ (c .before .loop .inv .2 a) (c .loop-test .left)
 
 pub emit-shape-spec : {M : Type 1} → statement M
 emit-shape-spec =
@@ -117,18 +102,13 @@ emit-shape-spec =
     sub-row
     mask-at-requires
     passed-requires
-    add-result
+    emit-requires
     same-length
     same-length-2
     returns
-    cast-emit
-    emit-requires
-    same-length-3
-    same-length-4
-    returns-2
     before-at-requires
     loop-less
     loop-again
-    same-length-5
-    same-length-6
-    returns-3)
+    same-length-3
+    same-length-4
+    returns-2)

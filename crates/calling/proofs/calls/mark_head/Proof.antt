@@ -1,11 +1,8 @@
 -- `mark_head` meets its contract. The invariant: the marks of the shapes below the link are in the set. The measure is how many links may follow.
 -- Assumes nothing.
-use Prim.Native.Nat.{ℕ}
 use native.Mathlib.Omega.{arith}
 use borrow.Author.Needs.{needs}
-use borrow.Author.Tests.{not-true}
 use mathlib.Core.Path.{_≡_, refl, _∙_}
-use mathlib.Core.Bool.{false, true}
 use lib.ListN.{length}
 use Rattle.steps.specs.Situation.{Situation, ClauseOf}
 use Rattle.calling.proofs.ShapeVisits.{linksLeft, head-in-words}
@@ -111,56 +108,44 @@ marks-of-shape-requires c κs =
     let b = a .clause in
     (head-shape (a .situation) b _ _ _ _ (c .before .before .loop .inv .1 (a .situation) b) (c .before .loop-test .taken), c .before .before .loop .inv .0 ∙ size)
 
-same-length : tie.Need-same-length Inv-loop μ-loop
-same-length c = c .before .before .before .marks-of-shape .kept .1 .1 .1 .1 .1 .1 .1 .1 .1 .0 ∙ c .before .before .before .before .before .before .loop .inv .0
-
-returns : tie.Need-returns Inv-loop μ-loop
-returns c =
-    let no : c .before .before .before .marks-of-shape .result ≡ false = not-true (c .before .before .before .marks-of-shape .result) (c .if1 .taken) in
-    let yes : c .before .before .before .marks-of-shape .result ≡ true = c .before .before .before .marks-of-shape .ensures .0 in
-    let never : _≡_ {A = ℕ} 0 1 = cc in
-    absurd (omega arith)
-
 add-wide-5 : tie.Need-add-wide-5 Inv-loop μ-loop
 add-wide-5 c =
-    let a = c .before .before .before .before .before .before .before .before .before .before .before .before .before .before .before .before .before .before .before .before .before .before .before .pre .0 in
-    omega (arith, head-few (a .situation) (a .clause) _ _ _ _ (c .before .before .before .before .before .before .loop .inv .1 (a .situation) (a .clause)) (c .before .before .before .before .before .loop-test .taken))
+    let a = c .before .before .before .before .before .before .before .before .before .before .before .before .before .before .before .before .before .before .before .before .before .before .pre .0 in
+    omega (arith, head-few (a .situation) (a .clause) _ _ _ _ (c .before .before .before .before .before .loop .inv .1 (a .situation) (a .clause)) (c .before .before .before .before .loop-test .taken))
 
 mul-wide-6 : tie.Need-mul-wide-6 Inv-loop μ-loop
 mul-wide-6 c =
-    let a = c .before .before .before .before .before .before .before .before .before .before .before .before .before .before .before .before .before .before .before .before .before .before .before .pre .0 in
-    omega (arith, head-few (a .situation) (a .clause) _ _ _ _ (c .before .before .before .before .before .before .loop .inv .1 (a .situation) (a .clause)) (c .before .before .before .before .before .loop-test .taken))
+    let a = c .before .before .before .before .before .before .before .before .before .before .before .before .before .before .before .before .before .before .before .before .before .before .pre .0 in
+    omega (arith, head-few (a .situation) (a .clause) _ _ _ _ (c .before .before .before .before .before .loop .inv .1 (a .situation) (a .clause)) (c .before .before .before .before .loop-test .taken))
 
 shared-slice-read-wide-6 : tie.Need-shared-slice-read-wide-6 Inv-loop μ-loop
 shared-slice-read-wide-6 c =
-    let a = c .before .before .before .before .before .before .before .before .before .before .before .before .before .before .before .before .before .before .before .before .before .before .before .before .pre .0 in
-    omega (arith, head-few (a .situation) (a .clause) _ _ _ _ (c .before .before .before .before .before .before .before .loop .inv .1 (a .situation) (a .clause)) (c .before .before .before .before .before .before .loop-test .taken), asked-head-in-dir a .1)
+    let a = c .before .before .before .before .before .before .before .before .before .before .before .before .before .before .before .before .before .before .before .before .before .before .before .pre .0 in
+    omega (arith, head-few (a .situation) (a .clause) _ _ _ _ (c .before .before .before .before .before .before .loop .inv .1 (a .situation) (a .clause)) (c .before .before .before .before .before .loop-test .taken), asked-head-in-dir a .1)
 
 wide-requires-6 : tie.Need-wide-requires-6 Inv-loop μ-loop
 wide-requires-6 c κs = search needs
 
 loop-less : tie.Need-loop-less Inv-loop μ-loop
 loop-less c =
-    let a = c .before .before .before .before .before .before .before .before .before .before .before .before .before .before .before .before .before .before .before .before .before .before .before .before .before .pre .0 in
-    head-nearer (a .situation) (a .clause) _ _ _ _ (c .before .before .before .before .before .before .before .before .loop .inv .1 (a .situation) (a .clause)) (c .before .before .before .before .before .before .before .loop-test .taken) _ (c .wide6 .ensures .0)
+    let a = c .before .before .before .before .before .before .before .before .before .before .before .before .before .before .before .before .before .before .before .before .before .before .before .before .pre .0 in
+    head-nearer (a .situation) (a .clause) _ _ _ _ (c .before .before .before .before .before .before .before .loop .inv .1 (a .situation) (a .clause)) (c .before .before .before .before .before .before .loop-test .taken) _ (c .wide6 .ensures .0)
 
 loop-again : tie.Need-loop-again Inv-loop μ-loop
 loop-again c = (
-  c .before .before .before .before .before .marks-of-shape .kept .1 .1 .1 .1 .1 .1 .1 .1 .1 .0 ∙ c .before .before .before .before .before .before .before .before .loop .inv .0,
+  c .before .before .before .before .marks-of-shape .kept .1 .1 .1 .1 .1 .1 .1 .1 .1 .0 ∙ c .before .before .before .before .before .before .before .loop .inv .0,
   λ w b.
-      let v = c .before .before .before .before .before .before .before .before .loop .inv .1 w b in
-      head-on w b _ _ _ _ v (c .before .before .before .before .before .before .before .loop-test .taken)
-      (c .before .before .before .before .before .marks-of-shape .ensures .1 (head-shape w b _ _ _ _ v (c .before .before .before .before .before .before .before .loop-test .taken))) _ (c .wide6 .ensures .0),
+      let v = c .before .before .before .before .before .before .before .loop .inv .1 w b in
+      head-on w b _ _ _ _ v (c .before .before .before .before .before .before .loop-test .taken)
+      (c .before .before .before .before .marks-of-shape .ensures (head-shape w b _ _ _ _ v (c .before .before .before .before .before .before .loop-test .taken))) _ (c .wide6 .ensures .0),
 )
 
-same-length-2 : tie.Need-same-length-2 Inv-loop μ-loop
-same-length-2 c = c .before .loop .inv .0
+same-length : tie.Need-same-length Inv-loop μ-loop
+same-length c = c .before .loop .inv .0
 
-returns-2 : tie.Need-returns-2 Inv-loop μ-loop
-returns-2 c = (
-  refl,
-  λ w. let b = asked-clause (c .before .before .before .before .before .before .before .before .before .before .before .before .before .before .before .before .before .before .pre .0) w in head-ends w b _ _ _ _ (c .before .loop .inv .1 w b) (c .loop-test .left),
-)
+returns : tie.Need-returns Inv-loop μ-loop
+returns c =
+    λ w. let b = asked-clause (c .before .before .before .before .before .before .before .before .before .before .before .before .before .before .before .before .before .before .pre .0) w in head-ends w b _ _ _ _ (c .before .loop .inv .1 w b) (c .loop-test .left)
 
 pub mark-head-spec : {M : Type 1} → statement M
 mark-head-spec =
@@ -191,13 +176,11 @@ mark-head-spec =
     loop-holds
     sub-s
     marks-of-shape-requires
-    same-length
-    returns
     add-wide-5
     mul-wide-6
     shared-slice-read-wide-6
     wide-requires-6
     loop-less
     loop-again
-    same-length-2
-    returns-2)
+    same-length
+    returns)

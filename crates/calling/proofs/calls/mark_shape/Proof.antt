@@ -24,48 +24,39 @@ sub-row c = omega (arith, c .loop-test .taken)
 
 mask-at-requires : tie.Need-mask-at-requires Inv-loop μ-loop
 mask-at-requires c κs =
-    let asked = c .before .before .before .before .pre .0 in
-    marking-there asked _ (c .before .loop .inv .1 asked) _ (omega (arith, c .loop-test .taken))
+    let asked = c .before .before .before .before .before .pre .0 in
+    marking-there asked _ (c .before .before .loop .inv .1 asked) _ (omega (arith, c .before .loop-test .taken))
 
 passed-requires : tie.Need-passed-requires Inv-loop μ-loop
 passed-requires c κs = search needs
 
-same-length : tie.Need-same-length Inv-loop μ-loop
-same-length c = c .before .before .before .before .loop .inv .0
-
-returns : tie.Need-returns Inv-loop μ-loop
-returns c = absurd (omega (arith, c .before .passed .ensures .0, c .if1 .taken))
-
-cast-insert : tie.Need-cast-insert Inv-loop μ-loop
-cast-insert c = omega (arith, c .before .before .passed .ensures .0)
-
 insert-requires : tie.Need-insert-requires Inv-loop μ-loop
-insert-requires c κs = c .before .before .before .before .before .loop .inv .0 ∙ c .before .before .before .before .before .before .before .before .pre .1
+insert-requires c κs = c .before .before .before .before .loop .inv .0 ∙ c .before .before .before .before .before .before .before .pre .1
 
 before-at-requires : tie.Need-before-at-requires Inv-loop μ-loop
 before-at-requires c κs =
-    let asked = c .before .before .before .before .before .before .before .before .before .before .before .pre .0 in
-    marking-there asked _ (c .before .before .before .before .before .before .before .before .loop .inv .1 asked) (c .before .before .before .before .before .before .before .before .loop .link - 1) (omega (arith, c .before .before .before .before .before .before .before .loop-test .taken))
+    let asked = c .before .before .before .before .before .before .before .before .before .before .pre .0 in
+    marking-there asked _ (c .before .before .before .before .before .before .before .loop .inv .1 asked) (c .before .before .before .before .before .before .before .loop .link - 1) (omega (arith, c .before .before .before .before .before .before .loop-test .taken))
 
 loop-less : tie.Need-loop-less Inv-loop μ-loop
 loop-less c =
-    let asked = c .before .before .before .before .before .before .before .before .before .before .before .before .pre .0 in
-    marking-nearer asked _ (c .before .before .before .before .before .before .before .before .before .loop .inv .1 asked) (c .before .before .before .before .before .before .before .before .before .loop .link - 1) (omega (arith, c .before .before .before .before .before .before .before .before .loop-test .taken)) _ (c .before-at .ensures)
+    let asked = c .before .before .before .before .before .before .before .before .before .before .before .pre .0 in
+    marking-nearer asked _ (c .before .before .before .before .before .before .before .before .loop .inv .1 asked) (c .before .before .before .before .before .before .before .before .loop .link - 1) (omega (arith, c .before .before .before .before .before .before .before .loop-test .taken)) _ (c .before-at .ensures)
 
 loop-again : tie.Need-loop-again Inv-loop μ-loop
 loop-again c = (
-  c .before .before .before .insert .kept .0 ∙ c .before .before .before .before .before .before .before .before .before .loop .inv .0,
+  c .before .before .before .insert .kept .0 ∙ c .before .before .before .before .before .before .before .before .loop .inv .0,
   λ a.
-      let taken = c .before .before .before .before .before .before .before .before .loop-test .taken in
-      marking-on a _ (c .before .before .before .before .before .before .before .before .before .loop .inv .1 a) (c .before .before .before .before .before .before .before .before .before .loop .link - 1) (omega arith) _ _ (c .before .before .before .insert .result) _ (omega arith)
-      (rw (c .before .before .before .before .before .before .before .mask-at .ensures) at (c .before .before .before .before .before .before .passed .ensures .1)) (c .before .before .before .insert .kept .0) (c .before .before .before .insert .ensures) (c .before-at .ensures),
+      let taken = c .before .before .before .before .before .before .before .loop-test .taken in
+      marking-on a _ (c .before .before .before .before .before .before .before .before .loop .inv .1 a) (c .before .before .before .before .before .before .before .before .loop .link - 1) (omega arith) _ _ (c .before .before .before .insert .result) _ (omega arith)
+      (rw (c .before .before .before .before .before .mask-at .ensures) at (c .before .before .before .before .passed .ensures .1)) (c .before .before .before .insert .kept .0) (c .before .before .before .insert .ensures) (c .before-at .ensures),
 )
 
-same-length-2 : tie.Need-same-length-2 Inv-loop μ-loop
-same-length-2 c = c .before .loop .inv .0
+same-length : tie.Need-same-length Inv-loop μ-loop
+same-length c = c .before .loop .inv .0
 
-returns-2 : tie.Need-returns-2 Inv-loop μ-loop
-returns-2 c = (refl, λ a. marking-ends a _ (c .before .loop .inv .1 a) (c .loop-test .left))
+returns : tie.Need-returns Inv-loop μ-loop
+returns c = λ a. marking-ends a _ (c .before .loop .inv .1 a) (c .loop-test .left)
 
 pub mark-shape-spec : {M : Type 1} → statement M
 mark-shape-spec =
@@ -77,12 +68,9 @@ mark-shape-spec =
     sub-row
     mask-at-requires
     passed-requires
-    same-length
-    returns
-    cast-insert
     insert-requires
     before-at-requires
     loop-less
     loop-again
-    same-length-2
-    returns-2)
+    same-length
+    returns)

@@ -1,7 +1,6 @@
 -- `marks_of_shape` meets its contract: a shape without a new call row, or apart from the head, gives no marks; else its call rows are walked.
 -- Assumes nothing.
 use native.Mathlib.Omega.{arith}
-use mathlib.Core.Path.{refl}
 use borrow.Author.Tests.{not-true, not-false}
 use Rattle.calling.proofs.MetShapes.{shape-entry, shape-in-dir, shape-slot, shape-meeting, opened-old, opened-apart, mark-calls}
 use Rattle.steps.proofs.MarkedSets.{marked-none}
@@ -19,17 +18,15 @@ wide-requires : tie.Need-wide-requires
 wide-requires c κs = search needs
 
 returns : tie.Need-returns
-returns c = (refl, λ a. marked-none _ (c .before .before .before .before .before .before .before .before .pre .1) (opened-old (a .shape) _ (c .before .wide .ensures .0) (c .if1 .taken)))
+returns c = λ a. marked-none _ (c .before .before .before .before .before .before .before .before .pre .1) (opened-old (a .shape) _ (c .before .wide .ensures .0) (c .if1 .taken))
 
 meet-requires : tie.Need-meet-requires
 meet-requires c κs = shape-meeting (c .before .before .before .before .before .before .before .before .before .pre .0 .shape)
 
 returns-2 : tie.Need-returns-2
-returns-2 c = (
-  refl,
-  λ a. marked-none _ (c .before .before .before .before .before .before .before .before .before .before .before .pre .1)
-      (opened-apart (a .shape) (rw (not-true (c .before .meet .result) (c .if2 .taken)) at (c .before .meet .ensures (shape-meeting (a .shape))))),
-)
+returns-2 c =
+    λ a. marked-none _ (c .before .before .before .before .before .before .before .before .before .before .before .pre .1)
+    (opened-apart (a .shape) (rw (not-true (c .before .meet .result) (c .if2 .taken)) at (c .before .meet .ensures (shape-meeting (a .shape)))))
 
 add-wide : tie.Need-add-wide
 add-wide c = omega (arith, shape-in-dir (c .before .before .before .before .before .before .before .before .before .before .before .pre .0 .shape) .0)
@@ -59,13 +56,11 @@ same-length : tie.Need-same-length
 same-length c = search needs
 
 returns-3 : tie.Need-returns-3
-returns-3 c = (
-  c .before .before .mark-shape .ensures .0,
-  λ a.
-      c .before .before .mark-shape .ensures .1 (mark-calls a _ _ _ (c .before .before .before .before .before .before .before .before .before .before .before .before .wide .ensures .0)
-      (rw (not-false (c .before .before .before .before .before .before .before .before .before .meet .result) (c .before .before .before .before .before .before .before .before .if2 .left)) at (c .before .before .before .before .before .before .before .before .before .meet .ensures (shape-meeting (a .shape))))
-      (c .before .before .before .before .before .first-variables .ensures .0) (rw (c .before .before .before .before .before .before .wide2 .ensures .0) at (c .before .before .before .before .before .first-variables .ensures .1))),
-)
+returns-3 c =
+    λ a.
+    c .before .before .mark-shape .ensures (mark-calls a _ _ _ (c .before .before .before .before .before .before .before .before .before .before .before .before .wide .ensures .0)
+    (rw (not-false (c .before .before .before .before .before .before .before .before .before .meet .result) (c .before .before .before .before .before .before .before .before .if2 .left)) at (c .before .before .before .before .before .before .before .before .before .meet .ensures (shape-meeting (a .shape))))
+    (c .before .before .before .before .before .first-variables .ensures .0) (rw (c .before .before .before .before .before .before .wide2 .ensures .0) at (c .before .before .before .before .before .first-variables .ensures .1)))
 
 pub marks-of-shape-spec : {M : Type 1} → statement M
 marks-of-shape-spec =

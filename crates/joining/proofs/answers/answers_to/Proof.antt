@@ -157,15 +157,6 @@ of-met-requires c κs =
     let there = c .before .before .before .before .before .before .before .before .before .before .before .variables-of in
     met-asked W B (c .before .before .before .before .before .before .loop .inv W B) (c .before .before .before .before .before .loop-test .taken) (c .before .before .before .wide5 .ensures .0) start-is cells-is (atom-variables W B (there .result) (rw (start-is, cells-is) at (there .ensures)))
 
-same-length : tie.Need-same-length Inv-loop μ-loop
-same-length c = absurd (omega (arith, c .if2 .taken, c .before .before .before .before .before .of-met .ensures .0))
-
-same-length-2 : tie.Need-same-length-2 Inv-loop μ-loop
-same-length-2 c = absurd (omega (arith, c .if2 .taken, c .before .before .before .before .before .of-met .ensures .0))
-
-returns : tie.Need-returns Inv-loop μ-loop
-returns c = absurd (omega (arith, c .if2 .taken, c .before .before .before .before .before .of-met .ensures .0))
-
 add-wide-5 : tie.Need-add-wide-5 Inv-loop μ-loop
 add-wide-5 c =
     let st = c .before .before .before .before .before .before .before .before .before .before .before .before .before .before .before .before .before .before .before .before .before in
@@ -204,24 +195,24 @@ loop-again c =
     let there = c .before .before .before .before .before .before .before .before .before .before .before .variables-of in
     let more = c .before .before .before .before .before .loop-test .taken in
     λ w b. rw (c .wide6 .ensures .0) (⊎-elim
-    (λ v. rw (v .9, v .10, v .11) (shaped-met w b (at .loop .inv w b) more (c .before .before .before .wide5 .ensures .0) start-is cells-is
+    (λ v. rw (v .8, v .9, v .10) (shaped-met w b (at .loop .inv w b) more (c .before .before .before .wide5 .ensures .0) start-is cells-is
     (atom-variables w b (there .result) (rw (start-is, cells-is) at (there .ensures))) (v .3 .ensures .1)))
     (λ v. rw (v .1, v .2, v .3) (shaped-goes-on w b (at .loop .inv w b) more
     (none-newer w b (at .loop .inv w b) more (rw (c .before .before .before .wide5 .ensures .0) at (v .0 .left)))))
     (c .before .before .if1 .came))
 
-same-length-3 : tie.Need-same-length-3 Inv-loop μ-loop
-same-length-3 c =
+same-length : tie.Need-same-length Inv-loop μ-loop
+same-length c =
     let st = c .before .before .before .before .before .before .before .before .before .before .before .before .before .before .before .before .before .before in
     (c .before .loop .inv (st .pre .situation) (st .pre .body)) .before .listing .set-size ∙ sym (st .pre .listing .set-size)
 
-same-length-4 : tie.Need-same-length-4 Inv-loop μ-loop
-same-length-4 c =
+same-length-2 : tie.Need-same-length-2 Inv-loop μ-loop
+same-length-2 c =
     let st = c .before .before .before .before .before .before .before .before .before .before .before .before .before .before .before .before .before .before in
     (c .before .loop .inv (st .pre .situation) (st .pre .body)) .before .listing .list-size ∙ sym (st .pre .listing .list-size)
 
-returns-2 : tie.Need-returns-2 Inv-loop μ-loop
-returns-2 c =
+returns : tie.Need-returns Inv-loop μ-loop
+returns c =
     let st = c .before .before .before .before .before .before .before .before .before .before .before .before .before .before .before .before .before .before in
     let at = c .before in
     ((at .loop .inv (st .pre .situation) (st .pre .body)) .before .listing .within, λ w b. shaped-ends w b (at .loop .inv w b) (c .loop-test .left))
@@ -261,15 +252,12 @@ answers-to-spec =
     shared-slice-read-wide-5
     wide-requires-5
     of-met-requires
-    same-length
-    same-length-2
-    returns
     add-wide-5
     mul-wide-6
     shared-slice-read-wide-6
     wide-requires-6
     loop-less
     loop-again
-    same-length-3
-    same-length-4
-    returns-2)
+    same-length
+    same-length-2
+    returns)

@@ -31,36 +31,24 @@ mask-at-requires c κs =
 passed-requires : tie.Need-passed-requires Inv-loop μ-loop
 passed-requires c κs = search needs
 
-same-length : tie.Need-same-length Inv-loop μ-loop
-same-length c = absurd (omega (arith, c .if2 .taken, c .before .passed .ensures .0))
-
-same-length-2 : tie.Need-same-length-2 Inv-loop μ-loop
-same-length-2 c = absurd (omega (arith, c .if2 .taken, c .before .passed .ensures .0))
-
-returns : tie.Need-returns Inv-loop μ-loop
-returns c = absurd (omega (arith, c .if2 .taken, c .before .passed .ensures .0))
-
-cast-mask : tie.Need-cast-mask Inv-loop μ-loop
-cast-mask c = omega (arith, c .before .passed .ensures .0)
-
 insert-requires : tie.Need-insert-requires Inv-loop μ-loop
-insert-requires c κs = (c .before .before .before .before .before .before .loop .inv (c .before .before .before .before .before .before .before .before .before .before .pre)) .gathered .listing .set-size
+insert-requires c κs = (c .before .before .before .before .before .loop .inv (c .before .before .before .before .before .before .before .before .before .pre)) .gathered .listing .set-size
 
 mul-answers : tie.Need-mul-answers Inv-loop μ-loop
 mul-answers c =
-    let st = c .before .before .before .before .before .before .before .before .before .before .before .before .before .before in
-    omega (arith, room-left (st .pre) (c .before .before .before .before .before .before .before .before .before .before .loop .inv (st .pre)) (c .before .before .before .before .before .before .before .before .before .loop-test .taken) (c .before .before .before .before .before .before .before .before .if1 .taken))
+    let st = c .before .before .before .before .before .before .before .before .before .before .before .before .before in
+    omega (arith, room-left (st .pre) (c .before .before .before .before .before .before .before .before .before .loop .inv (st .pre)) (c .before .before .before .before .before .before .before .before .loop-test .taken) (c .before .before .before .before .before .before .before .if1 .taken))
 
 slice-write-answers : tie.Need-slice-write-answers Inv-loop μ-loop
 slice-write-answers c =
-    let st = c .before .before .before .before .before .before .before .before .before .before .before .before .before .before in
-    let at = c .before .before .before .before .before .before .before .before .before .before in
-    omega (arith, room-left (st .pre) (at .loop .inv (st .pre)) (c .before .before .before .before .before .before .before .before .before .loop-test .taken) (c .before .before .before .before .before .before .before .before .if1 .taken), (at .loop .inv (st .pre)) .gathered .listing .list-size)
+    let st = c .before .before .before .before .before .before .before .before .before .before .before .before .before in
+    let at = c .before .before .before .before .before .before .before .before .before in
+    omega (arith, room-left (st .pre) (at .loop .inv (st .pre)) (c .before .before .before .before .before .before .before .before .loop-test .taken) (c .before .before .before .before .before .before .before .if1 .taken), (at .loop .inv (st .pre)) .gathered .listing .list-size)
 
 add-found : tie.Need-add-found Inv-loop μ-loop
 add-found c =
-    let st = c .before .before .before .before .before .before .before .before .before .before .before .before .before .before in
-    omega (arith, room-left (st .pre) (c .before .before .before .before .before .before .before .before .before .before .loop .inv (st .pre)) (c .before .before .before .before .before .before .before .before .before .loop-test .taken) (c .before .before .before .before .before .before .before .before .if1 .taken))
+    let st = c .before .before .before .before .before .before .before .before .before .before .before .before .before in
+    omega (arith, room-left (st .pre) (c .before .before .before .before .before .before .before .before .before .loop .inv (st .pre)) (c .before .before .before .before .before .before .before .before .loop-test .taken) (c .before .before .before .before .before .before .before .if1 .taken))
 
 before-at-requires : tie.Need-before-at-requires Inv-loop μ-loop
 before-at-requires c κs =
@@ -76,24 +64,24 @@ loop-again : tie.Need-loop-again Inv-loop μ-loop
 loop-again c =
     let at = c .before .before .before in
     λ w. rw (c .before-at .ensures) (⊎-elim
-    (λ v. rw (v .9, v .10, v .11) (walking-new w (at .loop .inv w) (c .before .before .loop-test .taken) (v .0 .taken) (rw (v .1 .ensures) at (v .2 .ensures .1)) (v .2 .ensures .0) (v .5 .kept .0) (rw (v .8 .taken) at (v .5 .ensures))))
+    (λ v. rw (v .8, v .9, v .10) (walking-new w (at .loop .inv w) (c .before .before .loop-test .taken) (v .0 .taken) (rw (v .1 .ensures) at (v .2 .ensures .1)) (v .2 .ensures .0) (v .4 .kept .0) (rw (v .7 .taken) at (v .4 .ensures))))
     (⊎-elim
-    (λ v. rw (v .9, v .10, v .11) (walking-there w (at .loop .inv w) (c .before .before .loop-test .taken) (v .0 .taken) (rw (v .1 .ensures) at (v .2 .ensures .1)) (v .2 .ensures .0) (v .5 .kept .0) (rw (v .8 .left) at (v .5 .ensures))))
+    (λ v. rw (v .8, v .9, v .10) (walking-there w (at .loop .inv w) (c .before .before .loop-test .taken) (v .0 .taken) (rw (v .1 .ensures) at (v .2 .ensures .1)) (v .2 .ensures .0) (v .4 .kept .0) (rw (v .7 .left) at (v .4 .ensures))))
     (λ v. rw (v .1, v .2, v .3) (walking-past w (at .loop .inv w) (c .before .before .loop-test .taken) (v .0 .left))))
     (c .before .if1 .came))
 
-same-length-3 : tie.Need-same-length-3 Inv-loop μ-loop
-same-length-3 c =
+same-length : tie.Need-same-length Inv-loop μ-loop
+same-length c =
     let st = c .before .before .before .before .before in
     (c .before .loop .inv (st .pre)) .gathered .listing .set-size ∙ sym (st .pre .listing .set-size)
 
-same-length-4 : tie.Need-same-length-4 Inv-loop μ-loop
-same-length-4 c =
+same-length-2 : tie.Need-same-length-2 Inv-loop μ-loop
+same-length-2 c =
     let st = c .before .before .before .before .before in
     (c .before .loop .inv (st .pre)) .gathered .listing .list-size ∙ sym (st .pre .listing .list-size)
 
-returns-2 : tie.Need-returns-2 Inv-loop μ-loop
-returns-2 c =
+returns : tie.Need-returns Inv-loop μ-loop
+returns c =
     let at = c .before in
     ((at .loop .inv (c .before .before .before .before .before .pre)) .gathered .listing .within, λ w. walking-ends w (at .loop .inv w) (c .loop-test .left))
 
@@ -107,10 +95,6 @@ of-shape-spec =
     sub-row
     mask-at-requires
     passed-requires
-    same-length
-    same-length-2
-    returns
-    cast-mask
     insert-requires
     mul-answers
     slice-write-answers
@@ -118,6 +102,6 @@ of-shape-spec =
     before-at-requires
     loop-less
     loop-again
-    same-length-3
-    same-length-4
-    returns-2)
+    same-length
+    same-length-2
+    returns)

@@ -1,7 +1,7 @@
 -- `last_place` meets its contract: what the place's cont rows make with the answers is what rule 2 makes with a new row. Assumes nothing.
 use native.Mathlib.Omega.{arith}
 use borrow.Author.Needs.{needs}
-use mathlib.Core.Path.{refl, sym, _∙_}
+use mathlib.Core.Path.{sym, _∙_}
 use Rattle.joining.proofs.PlaceSteps.{slot-there, no-head-marks, conts-there, head-marked}
 use Rattle.joining.proofs.joins.last_place.Statement.{statement}
 use Rattle.joining.proofs.joins.last_place.Tie as tie
@@ -21,7 +21,7 @@ wide-requires c κs = search needs
 returns : tie.Need-returns
 returns c =
     let s = c .before .before .before .before .before .before .before .before .before .before in
-    (refl, s .pre .2, λ w b. no-head-marks w b _ (s .pre .1) (sym (c .before .wide .ensures .0) ∙ c .if1 .taken))
+    (s .pre .2, λ w b. no-head-marks w b _ (s .pre .1) (sym (c .before .wide .ensures .0) ∙ c .if1 .taken))
 
 list-answers-requires : tie.Need-list-answers-requires
 list-answers-requires c κs = search needs
@@ -46,7 +46,6 @@ returns-2 c =
     let s = c .before .before .before .before .before .before .before .before .before .before .before .before .before .before .before .before .before .before .before .before .before .before in
     let listed = c .before .before .before .before .before .before .before .before .before .list-answers .ensures in
     let newest = c .before .before .before .before .before .before .before .before .before .before .before .before .before .wide .ensures .0 in (
-      refl,
       listed .0,
       λ w b.
           let a = rw newest at (listed .2 w b) in

@@ -35,48 +35,33 @@ narrow-requires-2 c κs = omega (arith, c .before .before .before .loop-test .ta
 passed-requires : tie.Need-passed-requires Inv-loop μ-loop
 passed-requires c κs = (omega arith, omega arith)
 
-add-result : tie.Need-add-result Inv-loop μ-loop
-add-result c = absurd (omega (arith, c .if2 .taken, c .before .passed .ensures .0))
-
-same-length : tie.Need-same-length Inv-loop μ-loop
-same-length c = absurd (omega (arith, c .if2 .taken, c .before .passed .ensures .0))
-
-same-length-2 : tie.Need-same-length-2 Inv-loop μ-loop
-same-length-2 c = absurd (omega (arith, c .if2 .taken, c .before .passed .ensures .0))
-
-returns : tie.Need-returns Inv-loop μ-loop
-returns c = absurd (omega (arith, c .if2 .taken, c .before .passed .ensures .0))
-
-cast-solve-calls : tie.Need-cast-solve-calls Inv-loop μ-loop
-cast-solve-calls c = record { fits = omega (arith, c .before .before .before .passed .ensures .0) }
-
 solve-calls-requires : tie.Need-solve-calls-requires Inv-loop μ-loop
 solve-calls-requires c κs =
-    let (asked, writable, l) = c .before .before .before .before .before .before .before .before .before .before .before .before .before .pre in
-    let g = c .before .before .before .before .before .before .before .before .before .loop .inv .1 (asked .to) (asked .shape-sets) (asked .found-for) in
-    let small : c .before .before .before .before .before .before .before .before .before .loop .q < 65536 = omega (arith, c .before .before .before .before .before .before .before .before .loop-test .taken, asked .few) in
-    let passes = set-passes (asked .to) (asked .shape-sets) (asked .found-for) _ _ _ _ small (c .before .before .before .before .before .before .before .narrow .ensures) (c .before .before .before .before .before .before .contains .ensures .0 (rw (c .before .before .before .before .before .if1 .taken) tt)) (c .before .before .before .before .narrow2 .ensures) (c .before .before .before .passed .ensures .1) in
+    let (asked, writable, l) = c .before .before .before .before .before .before .before .before .before .before .before .before .pre in
+    let g = c .before .before .before .before .before .before .before .before .loop .inv .1 (asked .to) (asked .shape-sets) (asked .found-for) in
+    let small : c .before .before .before .before .before .before .before .before .loop .q < 65536 = omega (arith, c .before .before .before .before .before .before .before .loop-test .taken, asked .few) in
+    let passes = set-passes (asked .to) (asked .shape-sets) (asked .found-for) _ _ _ _ small (c .before .before .before .before .before .before .narrow .ensures) (c .before .before .before .before .before .contains .ensures .0 (rw (c .before .before .before .before .if1 .taken) tt)) (c .before .before .before .narrow2 .ensures) (c .before .before .passed .ensures .1) in
     (record { to = to-stays (asked .to) _ _ l (g .same-rows) (g .same-length); q = _; passes = passes-stay (asked .to) _ _ l (g .same-rows) (g .same-length) _ _ passes }, g .writable, omega (arith, l, g .more))
 
-same-length-3 : tie.Need-same-length-3 Inv-loop μ-loop
-same-length-3 c =
-    let asked = c .before .before .before .before .before .before .before .before .before .before .before .before .before .before .before .before .before .before .before .pre .0 in
-    let g = c .before .before .before .before .before .before .before .before .before .before .before .before .before .before .before .loop .inv .1 (asked .to) (asked .shape-sets) (asked .found-for) in
+same-length : tie.Need-same-length Inv-loop μ-loop
+same-length c =
+    let asked = c .before .before .before .before .before .before .before .before .before .before .before .before .before .before .before .before .before .before .pre .0 in
+    let g = c .before .before .before .before .before .before .before .before .before .before .before .before .before .before .loop .inv .1 (asked .to) (asked .shape-sets) (asked .found-for) in
     c .before .before .before .before .before .solve-calls .kept .0 ∙ g .same-length
 
-same-length-4 : tie.Need-same-length-4 Inv-loop μ-loop
-same-length-4 c =
-    let asked = c .before .before .before .before .before .before .before .before .before .before .before .before .before .before .before .before .before .before .before .pre .0 in
-    let g = c .before .before .before .before .before .before .before .before .before .before .before .before .before .before .before .loop .inv .1 (asked .to) (asked .shape-sets) (asked .found-for) in
-    c .before .before .before .before .before .solve-calls .kept .1 .0 ∙ g .writable .store .all-buckets ∙ sym (c .before .before .before .before .before .before .before .before .before .before .before .before .before .before .before .before .before .before .before .pre .1 .store .all-buckets)
+same-length-2 : tie.Need-same-length-2 Inv-loop μ-loop
+same-length-2 c =
+    let asked = c .before .before .before .before .before .before .before .before .before .before .before .before .before .before .before .before .before .before .pre .0 in
+    let g = c .before .before .before .before .before .before .before .before .before .before .before .before .before .before .loop .inv .1 (asked .to) (asked .shape-sets) (asked .found-for) in
+    c .before .before .before .before .before .solve-calls .kept .1 .0 ∙ g .writable .store .all-buckets ∙ sym (c .before .before .before .before .before .before .before .before .before .before .before .before .before .before .before .before .before .before .pre .1 .store .all-buckets)
 
-returns-2 : tie.Need-returns-2 Inv-loop μ-loop
-returns-2 c = λ w unified set.
-    let l = c .before .before .before .before .before .before .before .before .before .before .before .before .before .before .before .before .before .before .before .pre .2 in
-    let g = c .before .before .before .before .before .before .before .before .before .before .before .before .before .before .before .loop .inv .1 w unified set in
-    let small : c .before .before .before .before .before .before .before .before .before .before .before .before .before .before .before .loop .q < 65536 = omega (arith, c .before .before .before .before .before .before .before .before .before .before .before .before .before .before .loop-test .taken, c .before .before .before .before .before .before .before .before .before .before .before .before .before .before .before .before .before .before .before .pre .0 .few) in
-    let passes = set-passes w unified set _ _ _ _ small (c .before .before .before .before .before .before .before .before .before .before .before .before .before .narrow .ensures) (c .before .before .before .before .before .before .before .before .before .before .before .before .contains .ensures .0 (rw (c .before .before .before .before .before .before .before .before .before .before .before .if1 .taken) tt)) (c .before .before .before .before .before .before .before .before .before .before .narrow2 .ensures) (c .before .before .before .before .before .before .before .before .before .passed .ensures .1) in
-    through-full w (c .before .before .before .before .before .before .before .before .before .before .before .before .before .before .before .before .before .before .before .args .found .now) _ _ _ _ _ _ _ _ g l _ _ _ (c .before .before .before .before .before .solve-calls .ensures (to-stays w _ _ l (g .same-rows) (g .same-length)) _ (passes-stay w _ _ l (g .same-rows) (g .same-length) _ _ passes)) (c .if3 .taken)
+returns : tie.Need-returns Inv-loop μ-loop
+returns c = λ w unified set.
+    let l = c .before .before .before .before .before .before .before .before .before .before .before .before .before .before .before .before .before .before .pre .2 in
+    let g = c .before .before .before .before .before .before .before .before .before .before .before .before .before .before .loop .inv .1 w unified set in
+    let small : c .before .before .before .before .before .before .before .before .before .before .before .before .before .before .loop .q < 65536 = omega (arith, c .before .before .before .before .before .before .before .before .before .before .before .before .before .loop-test .taken, c .before .before .before .before .before .before .before .before .before .before .before .before .before .before .before .before .before .before .pre .0 .few) in
+    let passes = set-passes w unified set _ _ _ _ small (c .before .before .before .before .before .before .before .before .before .before .before .before .narrow .ensures) (c .before .before .before .before .before .before .before .before .before .before .before .contains .ensures .0 (rw (c .before .before .before .before .before .before .before .before .before .before .if1 .taken) tt)) (c .before .before .before .before .before .before .before .before .before .narrow2 .ensures) (c .before .before .before .before .before .before .before .before .passed .ensures .1) in
+    through-full w (c .before .before .before .before .before .before .before .before .before .before .before .before .before .before .before .before .before .before .args .found .now) _ _ _ _ _ _ _ _ g l _ _ _ (c .before .before .before .before .before .solve-calls .ensures (to-stays w _ _ l (g .same-rows) (g .same-length)) _ (passes-stay w _ _ l (g .same-rows) (g .same-length) _ _ passes)) (c .if2 .taken)
 
 add-q : tie.Need-add-q Inv-loop μ-loop
 add-q c = omega (arith, c .before .before .before .loop-test .taken, c .before .before .before .before .before .before .before .before .pre .0 .few)
@@ -94,27 +79,27 @@ loop-again c =
           ⊎-elim
           (λ z.
           let passes = set-passes w unified set _ _ _ _ small (c .before .before .narrow .ensures) (c .before .contains .ensures .0 (rw (z .0 .taken) tt)) (z .1 .ensures) (z .2 .ensures .1) in
-          let s = z .6 .ensures (to-stays w _ _ l (g .same-rows) (g .same-length)) _ (passes-stay w _ _ l (g .same-rows) (g .same-length) _ _ passes) in
-          rw (z .12, z .13, z .14) (through-on w (c .before .before .before .before .before .before .before .before .args .found .now) _ _ _ _ _ _ _ _ g l _ _ _ s (z .11 .left)))
+          let s = z .5 .ensures (to-stays w _ _ l (g .same-rows) (g .same-length)) _ (passes-stay w _ _ l (g .same-rows) (g .same-length) _ _ passes) in
+          rw (z .11, z .12, z .13) (through-on w (c .before .before .before .before .before .before .before .before .args .found .now) _ _ _ _ _ _ _ _ g l _ _ _ s (z .10 .left)))
           (λ z.
           let out : InSet (c .before .before .before .before .before .before .before .before .args .found .now) (c .before .before .before .before .loop .q) → ⊥ = λ i. rw (z .0 .left) at (c .before .contains .ensures .1 (rw (c .before .before .narrow .ensures) i)) in
           rw (z .1, z .2, z .3) (through-past w (c .before .before .before .before .before .before .before .before .args .found .now) _ _ _ _ _ _ _ _ g out))
           (c .if1 .came),
     )
 
-same-length-5 : tie.Need-same-length-5 Inv-loop μ-loop
-same-length-5 c =
+same-length-3 : tie.Need-same-length-3 Inv-loop μ-loop
+same-length-3 c =
     let asked = c .before .before .before .before .before .pre .0 in
     c .before .loop .inv .1 (asked .to) (asked .shape-sets) (asked .found-for) .same-length
 
-same-length-6 : tie.Need-same-length-6 Inv-loop μ-loop
-same-length-6 c =
+same-length-4 : tie.Need-same-length-4 Inv-loop μ-loop
+same-length-4 c =
     let asked = c .before .before .before .before .before .pre .0 in
     let g = c .before .loop .inv .1 (asked .to) (asked .shape-sets) (asked .found-for) in
     g .writable .store .all-buckets ∙ sym (c .before .before .before .before .before .pre .1 .store .all-buckets)
 
-returns-3 : tie.Need-returns-3 Inv-loop μ-loop
-returns-3 c = λ w unified set.
+returns-2 : tie.Need-returns-2 Inv-loop μ-loop
+returns-2 c = λ w unified set.
     let e : c .before .loop .q ≡ c .before .before .before .before .before .args .marks = omega (arith, c .loop-test .left, c .before .loop .inv .0) in
     through-ends w (c .before .before .before .before .before .args .found .now) _ _ _ _ _ _ _ _ (c .before .loop .inv .1 w unified set) _ e
 
@@ -129,18 +114,13 @@ solve-shape-spec =
     contains-requires
     narrow-requires-2
     passed-requires
-    add-result
+    solve-calls-requires
     same-length
     same-length-2
     returns
-    cast-solve-calls
-    solve-calls-requires
-    same-length-3
-    same-length-4
-    returns-2
     add-q
     loop-less
     loop-again
-    same-length-5
-    same-length-6
-    returns-3)
+    same-length-3
+    same-length-4
+    returns-2)

@@ -12,9 +12,6 @@ pass-on-requires c κs = search needs
 enum-known-r : tie.Need-enum-known-r
 enum-known-r c = search needs
 
-cast-result : tie.Need-cast-result
-cast-result c = search needs
-
 enum-told : tie.Need-enum-told
 enum-told c = search needs
 
@@ -28,4 +25,4 @@ returns-2 c =
 
 pub passed-spec : {M : Type 1} → statement M
 passed-spec =
-    tie.close (tie.spec pass-on-requires enum-known-r cast-result enum-told returns returns-2)
+    tie.close (tie.spec pass-on-requires enum-known-r enum-told returns returns-2)
