@@ -1,21 +1,20 @@
 -- Demand 3 for the words that the analysis leaves: the rows that stand in an accepted table cover every run, and "ground" can be read off them.
-use Prim.Native.Nat.{ℕ}
-use native.Mathlib.Omega.{arith}
+use Prim.Native.Nat.{ℕ, _*_, _-_}
 use mathlib.Core.Path.{_≡_, refl, sym, _∙_}
 use mathlib.Core.Logic.{_⊎_, inl, inr}
 use mathlib.Core.List.{List, [], _∷_, _++_, List·Memᴰ, List·Memᴰ·head, List·Memᴰ·tail, List·Memᴰ·cases-cons, List·Memᴰ·not-nil}
-use lib.ListN.{length, take, drop}
+use lib.ListN.{length, take, drop, replicate}
 use Rattle.marks.specs.Modes.{modes}
 use Rattle.program.specs.Program.{Program}
-use Rattle.program.specs.Reply.{accepted, noRoom}
+use Rattle.program.specs.Faults.{faults, sound}
+use Rattle.program.specs.Reply.{accepted, done}
 use Rattle.program.specs.declared.reply.Reply.{Reply}
-use Rattle.program.proofs.FaultNumbers.{fault-number}
 use Rattle.table.specs.Rules.{Row, call, cont, solution}
 use Rattle.table.specs.Rounds.{Least}
-use Rattle.table.specs.Table.{Entry, rowWords, tableWords, TableOf, Promise, faulty, listed, full, unmarked}
+use Rattle.table.specs.Table.{Entry, rowSize, rowWords, tableWords, TableOf, Promise}
 use Rattle.table.proofs.RoundLaws.{least-appears}
 use Rattle.table.proofs.Sorting.{row-words-same}
-use Rattle.table.proofs.Promise.{appears-first, neither-never}
+use Rattle.table.proofs.Promise.{appears-first, accepted-table}
 use Rattle.runs.specs.TableRows.{StandsIn, Trusted}
 use Rattle.runs.proofs.TableCovers.{covers-within}
 use Rattle.runs.proofs.AcceptedRuns.{accepted-covers-runs, accepted-ground-at-calls}
@@ -60,21 +59,26 @@ stands-least : (p : Program) (entries : List Entry) (rest : List ℕ) → TableO
 stands-least p entries rest t row s =
     let (e, m, d) = stands-entry entries rest row s in rw (← d) (least-appears modes p (p .ground) (e .row) .1 (e .round, t .only e m .0))
 
--- what the analysis promises is to be trusted
-pub promise-trusted : (words : List ℕ) (size : ℕ) (reply : Reply) (table : List ℕ) → Promise words size reply table → reply .number ≡ accepted → Trusted words reply table
-promise-trusted words size reply table (faulty n q f e z) d = absurd (let b : n ≡ accepted = rw e at d in omega (arith, fault-number words n q f))
-promise-trusted words size reply table (full p f h e z) d = absurd (let b : noRoom ≡ accepted = rw e at d in omega arith)
-promise-trusted words size reply table (unmarked p f h e z) d = absurd (neither-never p h)
-promise-trusted words size reply table (listed p entries f t l e z) d = record {
-  p = p;
-  says = f;
-  rows = λ row. (from row, there row);
-  covers = covers-within modes p (p .ground) (Least modes p (p .ground)) (StandsIn (reply .count) table) there (accepted-covers-runs words p f);
-  ground-at-calls = λ s S at v occ every. accepted-ground-at-calls words p f s S at v occ (λ M least. every M (there (call s M) least));
-}
+-- a table of the least set is to be trusted
+table-trusted : (words : List ℕ) (reply : Reply) (table rest : List ℕ) (p : Program) (entries : List Entry) → faults words ≡ sound p → TableOf p entries
+    → reply ≡ done (length entries) → table ≡ tableWords entries ++ rest → Trusted words reply table
+table-trusted words reply table rest p entries f t e z =
+    record {
+      p = p;
+      says = f;
+      rows = λ row. (from row, there row);
+      covers = covers-within modes p (p .ground) (Least modes p (p .ground)) (StandsIn (reply .count) table) there (accepted-covers-runs words p f);
+      ground-at-calls = λ s S at v occ every. accepted-ground-at-calls words p f s S at v occ (λ M least. every M (there (call s M) least));
+    }
   where
     there : (row : Row ℕ) → Least modes p (p .ground) row → StandsIn (reply .count) table row
-    there row least = rw e (rw z (least-stands p entries _ t row least))
+    there row least = rw e (rw z (least-stands p entries rest t row least))
 
     from : (row : Row ℕ) → StandsIn (reply .count) table row → Least modes p (p .ground) row
-    from row stands = stands-least p entries _ t row (rw z at (rw e at stands))
+    from row stands = stands-least p entries rest t row (rw z at (rw e at stands))
+
+-- what the analysis promises is to be trusted
+pub promise-trusted : (words : List ℕ) (size : ℕ) (reply : Reply) (table : List ℕ) → Promise words size reply table → reply .number ≡ accepted → Trusted words reply table
+promise-trusted words size reply table h d =
+    let (p, entries, f, t, e, z) = accepted-table words size reply table h d in
+    table-trusted words reply table (replicate (size - rowSize * length entries) 0) p entries f t e z

@@ -1,9 +1,9 @@
 -- The promise of the analysis: no second reply and no second table meet it, and what an accepted table says of the least set.
-use Prim.Native.Nat.{ℕ, _≤_, _<_}
+use Prim.Native.Nat.{ℕ, _≤_, _<_, _-_, _*_}
 use native.Mathlib.Omega.{arith}
 use mathlib.Core.Path.{_≡_, refl, sym, ap, _∙_}
 use mathlib.Core.Logic.{_⊎_, inl, inr, _↔_}
-use mathlib.Core.List.{List, [], _∷_, map, List·Memᴰ, List·Memᴰ·head, List·Memᴰ·tail, List·Memᴰ·cases-cons, List·Memᴰ·not-nil, Memᴰ·map}
+use mathlib.Core.List.{List, [], _∷_, _++_, map, List·Memᴰ, List·Memᴰ·head, List·Memᴰ·tail, List·Memᴰ·cases-cons, List·Memᴰ·not-nil, Memᴰ·map}
 use lib.ListN.{length, replicate, length-map}
 use Rattle.terms.proofs.Masks.{mark-never-neither}
 use Rattle.marks.specs.Modes.{modes}
@@ -14,7 +14,7 @@ use Rattle.program.specs.declared.reply.Reply.{Reply}
 use Rattle.program.proofs.FaultNumbers.{fault-number}
 use Rattle.table.specs.Rules.{Row}
 use Rattle.table.specs.Rounds.{First, Least, Appears}
-use Rattle.table.specs.Table.{Entry, entryWords, Before, Ascending, Distinct, roomIn, TableOf, MoreThan, ComesOutNeither, Promise, faulty, listed, full, unmarked}
+use Rattle.table.specs.Table.{Entry, entryWords, tableWords, rowSize, Before, Ascending, Distinct, roomIn, TableOf, MoreThan, ComesOutNeither, Promise, faulty, listed, full, unmarked}
 use Rattle.table.proofs.Lists.{has-map}
 use Rattle.table.proofs.Distinct.{distinct-length, distinct-map}
 use Rattle.table.proofs.RoundLaws.{first-once, first-round, least-appears}
@@ -154,13 +154,18 @@ no-room-more words size r t p s (listed p′ es f h l e z) =
 no-room-more words size r t p s (full p′ f h e z) = (λ d. rw (sound-same _ s f) h, λ m. ap (λ (x : Reply). x .number) e)
 no-room-more words size r t p s (unmarked p′ f h e z) = absurd (neither-never p′ h)
 
--- number 0 is a table of exactly the least set
+-- number 0 is a table of exactly the least set, and zeros behind it
+pub accepted-table : (words : List ℕ) (size : ℕ) (r : Reply) (t : List ℕ) → Promise words size r t → r .number ≡ accepted
+    → (p : Program) × (entries : List Entry) × (faults words ≡ sound p) × TableOf p entries × (r ≡ done (length entries))
+    × (t ≡ tableWords entries ++ replicate (size - rowSize * length entries) 0)
+accepted-table words size r t (faulty n q f e z) d = absurd (let b : n ≡ accepted = rw e at d in omega (arith, fault-number words n q f))
+accepted-table words size r t (listed p entries f h l e z) d = (p, entries, f, h, e, z)
+accepted-table words size r t (full p f h e z) d = absurd (let b : noRoom ≡ accepted = rw e at d in omega arith)
+accepted-table words size r t (unmarked p f h e z) d = absurd (neither-never p h)
+
 pub accepted-listed : (words : List ℕ) (size : ℕ) (r : Reply) (t : List ℕ) → Promise words size r t → r .number ≡ accepted
     → (p : Program) × (entries : List Entry) × (faults words ≡ sound p) × TableOf p entries × (r ≡ done (length entries))
-accepted-listed words size r t (faulty n q f e z) d = absurd (let b : n ≡ accepted = rw e at d in omega (arith, fault-number words n q f))
-accepted-listed words size r t (listed p entries f h l e z) d = (p, entries, f, h, e)
-accepted-listed words size r t (full p f h e z) d = absurd (let b : noRoom ≡ accepted = rw e at d in omega arith)
-accepted-listed words size r t (unmarked p f h e z) d = absurd (neither-never p h)
+accepted-listed words size r t h d = let (p, entries, f, rows, e, z) = accepted-table words size r t h d in (p, entries, f, rows, e)
 
 -- "Every refusal zeroes all lent output", and counts nothing
 pub refused-zeros : (words : List ℕ) (size : ℕ) (r : Reply) (t : List ℕ) → Promise words size r t → (r .number ≡ accepted → ⊥) → (t ≡ replicate size 0) × (r .count ≡ 0)
