@@ -6,16 +6,14 @@ use mathlib.Core.Logic.{_⊎_, inl, inr, ⊎-elim}
 use mathlib.Core.List.{List}
 use lib.ListN.{length, getD, take, drop}
 use Rattle.terms.specs.Mask.{Marks}
-use Rattle.terms.proofs.Masks.{marks-for}
 use Rattle.marks.specs.Modes.{modes, InOrder}
 use Rattle.marks.specs.Passing.{VariablesOf}
 use Rattle.program.specs.Program.{Nth, Program}
 use Rattle.program.specs.Shapes.{shapes, number}
 use Rattle.program.specs.Faults.{faults, sound}
-use Rattle.program.proofs.Nths.{nth-below}
 use Rattle.rows.specs.Rows.{keysOf}
 use Rattle.directory.specs.Layout.{clauseHead, clauseCells, clauseVars, bodyStart, bodyCells, shapeNext, predicateShape, maxBodies, dirWords}
-use Rattle.directory.specs.Directory.{Stands-at, ClauseAt, BodyAt, Link, predicateOf}
+use Rattle.directory.specs.Directory.{Stands-at, BodyAt, Link, predicateOf}
 use Rattle.table.specs.Rules.{call}
 use Rattle.table.specs.NewRows.{NewGoesOn}
 use Rattle.table.specs.RoundKeys.{Keyed}
@@ -25,10 +23,11 @@ use Rattle.steps.specs.Situation.{Situation, Place, AtomRun, FirstAsked}
 use Rattle.calling.specs.Calls.{OpenedBy, OpenedBelow, Emits, FirstShape, FirstBody}
 use Rattle.steps.proofs.Meetings.{setting-within}
 use Rattle.steps.proofs.Bodies.{body-there, body-few, body-is-atom}
+use Rattle.steps.proofs.ShapeLinks.{shapesLeft, next-link, links-fall}
 use Rattle.steps.proofs.Stepping.{keys-stay, grew-none, grew-must, stepped-must, stepped-then, stepped-within, stepped-past}
 use Rattle.steps.proofs.SlotRows.{chains-stay}
 use Rattle.steps.proofs.Emitting.{goes-emitted}
-use Rattle.calling.proofs.ShapeVisits.{linksLeft, head-predicate, first-link, link-few, next-link, links-fall, below-none, below-next, below-all}
+use Rattle.calling.proofs.ShapeVisits.{clause-in-dir, head-stands, head-variables, first-link, link-few, below-none, below-next, below-all}
 
 -- an accepted text has one program
 pub one-program : (words : List ℕ) {p q : Program} → faults words ≡ sound p → faults words ≡ sound q → p ≡ q
@@ -59,20 +58,13 @@ module _ {words dir table heads : List ℕ} {since rows k j : ℕ} (w : Situatio
   abbrev predicate : ℕ
   predicate = predicateOf (b .c .head)
 
-  pub clause-entry : ClauseAt words dir (b .c) k
-  clause-entry = w .setting .directory .clause (b .nth-clause)
-
   pub body-entry : BodyAt words p dir (b .c) 0 (b .A) j
   body-entry = rw (b .is) (body-there (w .setting) (b .nth-clause) (b .nth-atom))
 
   pub first-in-dir : (k < 64) × (j < maxBodies) × (length dir ≡ dirWords) × (length words ≤ 2048)
   first-in-dir =
-      let d = w .setting .directory in (
-        omega (arith, nth-below (b .nth-clause), setting-within (w .setting) .clauses-most),
-        rw (b .is) (body-few (w .setting) (b .nth-clause) (b .nth-atom)),
-        d .size,
-        d .words-most,
-      )
+      let (few, size, most) = clause-in-dir (w .setting) (b .nth-clause) in
+      (few, rw (b .is) (body-few (w .setting) (b .nth-clause) (b .nth-atom)), size, most)
 
   -- the atom's cells
   pub body-run : (from to : ℕ) → from ≡ getD dir (bodyStart + j) 0 → to ≡ from + getD dir (bodyCells + j) 0
@@ -121,18 +113,16 @@ module _ {words dir table heads : List ℕ} {since rows k j : ℕ} (w : Situatio
         → there < 65536 → Marks (λ v. v < getD dir (clauseVars + k) 0) there → InOrder (b .A) (number (b .A)) order count
         → link ≡ getD dir (predicateShape + getD words start 0) 0 → Visiting link n table buckets
     visiting-begins link writable e f small m o g =
+        let at-start = head-stands (w .setting) (b .nth-clause) e f in
         record {
           stands = at-start;
-          head-variables = record { small = small; marked = marks-for there (λ v. (clause-entry .head-variables v .1, clause-entry .head-variables v .0)) m };
+          head-variables = head-variables (w .setting) (b .nth-clause) small m;
           in-order = o;
           from = 0;
-          next = rw (g, head-predicate (w .setting) (b .nth-clause) at-start .0) (first-link (w .setting) (b .nth-clause));
+          next = first-link (w .setting) (b .nth-clause) at-start g;
           grew = grew-none p (keysOf table rows) number′ room n table buckets _ writable
               (λ key (N, opened, _). absurd (below-none (w .setting) (b .nth-clause) table since rows N opened));
         }
-      where
-        at-start : Stands-at words (b .c .head) start cells
-        at-start = rw (e, f) (clause-entry .stands)
 
     module _ (behind : rows ≤ n) {link n′ : ℕ} {table′ buckets′ : List ℕ} (v : Visiting link n′ table′ buckets′) (some : 0 < link) where
       abbrev pub visiting-shape : FirstShape words dir order table′ heads count since rows (link - 1) start cells there j
@@ -194,7 +184,7 @@ module _ {words dir table heads : List ℕ} {since rows k j : ℕ} (w : Situatio
               head-variables = v .head-variables;
               in-order = v .in-order;
               from = link;
-              next = rw e (next-link (w .setting) (b .nth-clause) (v .next) some);
+              next = rw e (next-link (w .setting) (v .next) some);
               grew = grew-must p (keysOf table rows) number′ room n n″ table buckets table″ buckets″ _ _ all
                   (stepped-within p (keysOf table rows) number′ room n n″ table buckets table″ buckets″ _ both l);
             }
@@ -204,9 +194,9 @@ module _ {words dir table heads : List ℕ} {since rows k j : ℕ} (w : Situatio
             all key (N, o, given) =
                 ⊎-elim (λ o′. inl (N, o′, given)) (λ o′. inr (N, o′, given)) (below-next (w .setting) (b .nth-clause) table since rows (v .next) some N .0 o)
 
-      pub visiting-nearer : (next : ℕ) → next ≡ getD dir (shapeNext + (link - 1)) 0 → linksLeft next < linksLeft link
+      pub visiting-nearer : (next : ℕ) → next ≡ getD dir (shapeNext + (link - 1)) 0 → shapesLeft next < shapesLeft link
       visiting-nearer next e =
-          links-fall (w .setting) (b .nth-clause) (v .next) some {next = next} (rw e (next-link (w .setting) (b .nth-clause) (v .next) some))
+          rw e (links-fall (w .setting) (v .next) some)
 
     pub visiting-ends : {link n′ : ℕ} {table′ buckets′ : List ℕ} → Visiting link n′ table′ buckets′ → link ≤ 0
         → Stepped p (keysOf table rows) number′ room n table buckets

@@ -7,7 +7,7 @@ use mathlib.Core.List.{List}
 use lib.ListN.{length, getD}
 use Rattle.terms.specs.Term.{Occ}
 use Rattle.terms.specs.Mask.{Has, Marks}
-use Rattle.terms.proofs.Masks.{has-none, marks-for}
+use Rattle.terms.proofs.Masks.{has-none}
 use Rattle.marks.specs.Modes.{Kept}
 use Rattle.marks.specs.Passing.{VariablesOf}
 use Rattle.marks.proofs.Modes.{kept-unique}
@@ -15,17 +15,16 @@ use Rattle.marks.proofs.Passing.{pass-within}
 use Rattle.program.specs.Program.{Nth, Clause, Program}
 use Rattle.program.specs.Shapes.{shapes}
 use Rattle.program.proofs.ShapeLaws.{nth-same}
-use Rattle.program.proofs.Nths.{nth-below}
 use Rattle.rows.specs.MaskSet.{setWords}
 use Rattle.directory.specs.Layout.{clauseHead, clauseCells, clauseVars, shapeNext, predicateShape, dirWords}
-use Rattle.directory.specs.Directory.{Stands-at, ClauseAt, Link, predicateOf}
+use Rattle.directory.specs.Directory.{Stands-at, Link, predicateOf}
 use Rattle.table.specs.Steps.{opens}
 use Rattle.steps.specs.Situation.{Situation, ClauseOf, HeadAsked}
 use Rattle.steps.specs.Heads.{ReachedSince, HeadMark, Marked}
 use Rattle.calling.specs.Calls.{OpenedBy, OpenedBelow, MarkShape}
-use Rattle.steps.proofs.Meetings.{setting-within}
+use Rattle.steps.proofs.ShapeLinks.{shapesLeft, next-link, links-fall}
 use Rattle.steps.proofs.MarkedSets.{marked-same, marked-none, marked-then}
-use Rattle.calling.proofs.ShapeVisits.{linksLeft, head-predicate, first-link, link-few, next-link, links-fall, below-none, below-next, below-all}
+use Rattle.calling.proofs.ShapeVisits.{clause-in-dir, head-stands, head-variables, first-link, link-few, below-none, below-next, below-all}
 use Rattle.calling.proofs.FirstVisits.{one-program}
 
 -- marks that a call row passes to a head are on the head's variables
@@ -64,14 +63,6 @@ module _ {words dir table heads : List ℕ} {since rows k : ℕ} (w : Situation 
   abbrev predicate : ℕ
   predicate = predicateOf (b .c .head)
 
-  pub clause-entry : ClauseAt words dir (b .c) k
-  clause-entry = w .setting .directory .clause (b .nth-clause)
-
-  pub head-in-dir : (k < 64) × (length dir ≡ dirWords) × (length words ≤ 2048)
-  head-in-dir =
-      let d = w .setting .directory in
-      (omega (arith, nth-below (b .nth-clause), setting-within (w .setting) .clauses-most), d .size, d .words-most)
-
   module _ (found : List ℕ) (start cells there : ℕ) where
     -- the shapes below a number are done, and the link leads to the next
     pub record HeadVisiting (link : ℕ) (found′ : List ℕ) : Type 0 where
@@ -85,16 +76,14 @@ module _ {words dir table heads : List ℕ} {since rows k : ℕ} (w : Situation 
         → there < 65536 → Marks (λ v. v < getD dir (clauseVars + k) 0) there
         → link ≡ getD dir (predicateShape + getD words start 0) 0 → HeadVisiting link found
     head-begins link size e f small m g =
+        let at-start = head-stands (w .setting) (b .nth-clause) e f in
         record {
           stands = at-start;
-          head-variables = record { small = small; marked = marks-for there (λ v. (clause-entry .head-variables v .1, clause-entry .head-variables v .0)) m };
+          head-variables = head-variables (w .setting) (b .nth-clause) small m;
           from = 0;
-          next = rw (g, head-predicate (w .setting) (b .nth-clause) at-start .0) (first-link (w .setting) (b .nth-clause));
+          next = first-link (w .setting) (b .nth-clause) at-start g;
           marked = marked-none found size (below-none (w .setting) (b .nth-clause) table since rows);
         }
-      where
-        at-start : Stands-at words (b .c .head) start cells
-        at-start = rw (e, f) (clause-entry .stands)
 
     module _ {link : ℕ} {found′ : List ℕ} (v : HeadVisiting link found′) (some : 0 < link) where
       abbrev pub head-shape : MarkShape words dir table heads since (link - 1) start cells there
@@ -119,9 +108,9 @@ module _ {words dir table heads : List ℕ} {since rows k : ℕ} (w : Situation 
       pub head-few : link ≤ 1025
       head-few = link-few (w .setting) (b .nth-clause) (v .next) some
 
-      pub head-nearer : (next : ℕ) → next ≡ getD dir (shapeNext + (link - 1)) 0 → linksLeft next < linksLeft link
+      pub head-nearer : (next : ℕ) → next ≡ getD dir (shapeNext + (link - 1)) 0 → shapesLeft next < shapesLeft link
       head-nearer next e =
-          links-fall (w .setting) (b .nth-clause) (v .next) some {next = next} (rw e (next-link (w .setting) (b .nth-clause) (v .next) some))
+          rw e (links-fall (w .setting) (v .next) some)
 
       pub head-on : {found″ : List ℕ} → Marked (OpenedBy p table since rows k (link - 1)) found′ found″ → (next : ℕ)
           → next ≡ getD dir (shapeNext + (link - 1)) 0 → HeadVisiting next found″
@@ -130,7 +119,7 @@ module _ {words dir table heads : List ℕ} {since rows k : ℕ} (w : Situation 
             stands = v .stands;
             head-variables = v .head-variables;
             from = link;
-            next = rw e (next-link (w .setting) (b .nth-clause) (v .next) some);
+            next = rw e (next-link (w .setting) (v .next) some);
             marked = marked-same found found″ same (marked-then found found′ found″ (v .marked) m);
           }
         where
@@ -149,4 +138,4 @@ module _ {words dir table heads : List ℕ} {since rows k : ℕ} (w : Situation 
 -- what is asked lies within the directory and the words
 pub asked-head-in-dir : {words dir table heads : List ℕ} {since rows k : ℕ} → HeadAsked words dir table heads since rows k
     → (k < 64) × (length dir ≡ dirWords) × (length words ≤ 2048)
-asked-head-in-dir a = head-in-dir (a .situation) (asked-clause a (a .situation))
+asked-head-in-dir a = clause-in-dir (a .situation .setting) (a .clause .nth-clause)

@@ -1,5 +1,5 @@
 -- The shapes of the predicate of a clause's head, one after the other along their links: the marks of none, of one shape more, of all.
-use Prim.Native.Nat.{ℕ, zero, suc, _+_, _-_, _≤_, _<_}
+use Prim.Native.Nat.{ℕ, _+_, _-_, _≤_, _<_}
 use native.Mathlib.Omega.{arith}
 use native.Mathlib.Decide.{decLt}
 use mathlib.Core.Path.{_≡_, sym, ap, subst, _∙_}
@@ -7,17 +7,20 @@ use mathlib.Core.Logic.{_⊎_, inl, inr, ⊎-elim, _↔_}
 use mathlib.Core.List.{List, _∷_}
 use lib.ListN.{length, getD, take, drop, length-drop}
 use lib.Seq.{length-take-le, getD-take, getD-drop}
-use Rattle.terms.specs.Term.{Term, app, Subst, sub, subs}
+use Rattle.terms.specs.Term.{Term}
 use Rattle.terms.specs.Cells.{enc, encs, Atom}
+use Rattle.terms.specs.Mask.{Marks}
 use Rattle.terms.specs.Unifier.{Unifies}
+use Rattle.terms.proofs.Masks.{marks-for}
 use Rattle.marks.specs.Modes.{modes}
+use Rattle.marks.specs.Passing.{VariablesOf}
 use Rattle.program.specs.Program.{Nth, Clause, Program}
 use Rattle.program.specs.Shapes.{shapes}
 use Rattle.program.proofs.ShapeLaws.{nth-same}
 use Rattle.program.proofs.Nths.{nth-below}
 use Rattle.rows.specs.Rows.{keysOf}
-use Rattle.directory.specs.Layout.{clauseHead, shapeNext, predicateShape, maxShapes}
-use Rattle.directory.specs.Directory.{Stands-at, Link, predicateOf}
+use Rattle.directory.specs.Layout.{clauseHead, clauseCells, clauseVars, predicateShape, maxShapes, dirWords}
+use Rattle.directory.specs.Directory.{Stands-at, ClauseAt, Link, predicateOf}
 use Rattle.table.specs.Steps.{opens}
 use Rattle.table.specs.NewRows.{NewReached}
 use Rattle.steps.specs.Steps.{RowsIn}
@@ -26,16 +29,7 @@ use Rattle.calling.specs.Calls.{OpenedBy, OpenedBelow}
 use Rattle.steps.proofs.Meetings.{setting-within}
 use Rattle.steps.proofs.ShapeAtoms.{shape-is-atom}
 use Rattle.steps.proofs.Bodies.{head-is-atom}
-
--- atoms that unify have one predicate
-pub unified-predicate : {ps fs qs gs : List ℕ} {A B : Term} (α β : Subst) → Atom ps fs A → Atom qs gs B → Unifies A B α β → predicateOf A ≡ predicateOf B
-unified-predicate {A = A} {B = B} α β a b e =
-    by (subst (λ (t : Term). sub t α ≡ sub B β) (a .is) e)
-  where
-    by : app (a .predicate) (subs (a .arguments) α) ≡ sub B β → predicateOf A ≡ predicateOf B
-    by h =
-        let h′ : app (a .predicate) (subs (a .arguments) α) ≡ app (b .predicate) (subs (b .arguments) β) = h ∙ ap (λ (t : Term). sub t β) (b .is) in
-        ap predicateOf (a .is) ∙ ap predicateOf h′ ∙ sym (ap predicateOf (b .is))
+use Rattle.steps.proofs.ShapeLinks.{same-predicate, link-below}
 
 -- an atom's first word is its predicate
 pub stands-predicate : {words : List ℕ} {ps fs : List ℕ} {A : Term} {start cells : ℕ} → Atom ps fs A → Stands-at words A start cells
@@ -48,16 +42,6 @@ stands-predicate {words} {A = A} {start} {cells} a s =
     let first : getD words start 0 ≡ getD (take cells (drop start words)) 0 0
     = sym (getD-take cells (drop start words) 0 0 some ∙ rw same at (getD-drop start words 0 0)) in
     (first ∙ ap (λ (l : List ℕ). getD l 0 0) run ∙ sym (ap predicateOf (a .is)), omega (arith, s .fits))
-
--- how many links may follow
-abbrev pub linksLeft : ℕ → ℕ
-linksLeft zero = 0
-linksLeft (suc s) = maxShapes - s
-
-pub fewer-links : (link next : ℕ) → 0 < link → link ≤ maxShapes → (0 < next → link ≤ next - 1) → linksLeft next < linksLeft link
-fewer-links zero next some few later = absurd (omega arith)
-fewer-links (suc s) zero some few later = omega arith
-fewer-links (suc s) (suc t) some few later = let l = later (omega arith) in omega arith
 
 module _ {words dir : List ℕ} {p : Program} (setting : Setting words dir p) {k : ℕ} {c : Clause} (hc : Nth (p .clauses) k c) where
   abbrev predicate : ℕ
@@ -76,21 +60,29 @@ module _ {words dir : List ℕ} {p : Program} (setting : Setting words dir p) {k
       let h = head-predicate (setting .directory .clause hc .stands) in
       rw e (h .1, rw (h .0) (omega (arith, head-declared .0, head-declared .1)))
 
-  pub first-link : Link (shapes p) predicate 0 (getD dir (predicateShape + predicate) 0)
-  first-link = setting .directory .first-shape predicate (head-declared .0)
+  pub clause-entry : ClauseAt words dir c k
+  clause-entry = setting .directory .clause hc
+
+  pub clause-in-dir : (k < 64) × (length dir ≡ dirWords) × (length words ≤ 2048)
+  clause-in-dir =
+      let d = setting .directory in
+      (omega (arith, nth-below hc, setting-within setting .clauses-most), d .size, d .words-most)
+
+  -- the head where the directory says that it stands, its variables, and the first of its predicate's shapes
+  pub head-stands : {start cells : ℕ} → start ≡ getD dir (clauseHead + k) 0 → cells ≡ getD dir (clauseCells + k) 0 → Stands-at words (c .head) start cells
+  head-stands e f = rw (e, f) (clause-entry .stands)
+
+  pub head-variables : {there : ℕ} → there < 65536 → Marks (λ v. v < getD dir (clauseVars + k) 0) there → VariablesOf (c .head) there
+  head-variables {there} small m =
+      record { small = small; marked = marks-for there (λ v. (clause-entry .head-variables v .1, clause-entry .head-variables v .0)) m }
+
+  pub first-link : {start cells link : ℕ} → Stands-at words (c .head) start cells → link ≡ getD dir (predicateShape + getD words start 0) 0
+      → Link (shapes p) predicate 0 link
+  first-link s g = rw (g, head-predicate s .0) (setting .directory .first-shape predicate (head-declared .0))
 
   module _ {from link : ℕ} (l : Link (shapes p) predicate from link) (some : 0 < link) where
     pub link-few : link ≤ maxShapes
-    link-few = let d = setting .directory in let (f, S, h, e) = l .named some in omega (arith, nth-below h, d .shape-count, d .shapes-most)
-
-    pub next-link : Link (shapes p) predicate link (getD dir (shapeNext + (link - 1)) 0)
-    next-link =
-        let (f, S, h, e) = l .named some in
-        let at : suc (link - 1) ≡ link = omega arith in
-        rw (e, at) at (setting .directory .shape h .next)
-
-    pub links-fall : {next : ℕ} → Link (shapes p) predicate link next → linksLeft next < linksLeft link
-    links-fall {next} m = fewer-links link next some link-few (λ h. m .named h .0)
+    link-few = omega (arith, link-below setting l some)
 
   module _ (table : List ℕ) (since rows : ℕ) where
     abbrev Below : ℕ → ℕ → Type 0
@@ -129,7 +121,9 @@ module _ {words dir : List ℕ} {p : Program} (setting : Setting words dir p) {k
           where
             same : predicateOf S ≡ predicate
             same =
-                unified-predicate (passed .α) (passed .β) (shape-is-atom p (setting-within setting) hs) (head-is-atom setting hc)
+                let a = shape-is-atom p (setting-within setting) hs in
+                let b = head-is-atom setting hc in
+                same-predicate (a .predicate) (b .predicate) (a .arguments) (b .arguments) (passed .α) (passed .β) (a .is) (b .is)
                 (subst (λ (d : Clause). Unifies S (d .head) (passed .α) (passed .β)) (nth-same hc′ hc) (passed .unifier .unifies))
 
             by : Dec (s < from) → Below from N

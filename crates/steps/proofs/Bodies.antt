@@ -10,12 +10,11 @@ use Rattle.program.specs.Program.{Nth, Clause, Program, bodies}
 use Rattle.program.proofs.Nths.{below-nth, nth-below}
 use Rattle.directory.specs.Layout.{clauseFirst, maxBodies}
 use Rattle.directory.specs.Directory.{BodyAt}
-use Rattle.directory.proofs.Cuts.{each-nth}
 use Rattle.directory.proofs.ClausesWalk.{bodies-next}
+use Rattle.directory.proofs.DirectoryLaws.{head-sound, body-sound}
 use Rattle.table.specs.Keys.{bodyIndex}
 use Rattle.table.proofs.Keys.{index-below}
 use Rattle.steps.specs.Situation.{Setting}
-use Rattle.steps.proofs.Meetings.{setting-within}
 
 module _ {words dir : List ℕ} {p : Program} (s : Setting words dir p) where
   -- the number of a clause's first body atom
@@ -37,7 +36,7 @@ module _ {words dir : List ℕ} {p : Program} (s : Setting words dir p) where
     body-few = let d = s .directory in omega (arith, index-below p hc hA, d .body-count, d .bodies-most)
 
     pub body-is-atom : Atom (p .predicates) (p .functions) A
-    body-is-atom = each-nth (each-nth (setting-within s .clauses-within) hc .body-atoms) hA
+    body-is-atom = body-sound words p (s .accepted) hc hA
 
   pub head-is-atom : {k : ℕ} {c : Clause} → Nth (p .clauses) k c → Atom (p .predicates) (p .functions) (c .head)
-  head-is-atom hc = each-nth (setting-within s .clauses-within) hc .head-atom
+  head-is-atom hc = head-sound words p (s .accepted) hc

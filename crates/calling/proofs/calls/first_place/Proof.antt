@@ -7,8 +7,9 @@ use mathlib.Core.Path.{_≡_, refl, _∙_}
 use lib.ListN.{length}
 use Rattle.steps.specs.Situation.{Situation}
 use Rattle.calling.specs.Calls.{FirstBody}
-use Rattle.calling.proofs.ShapeVisits.{linksLeft, head-in-words}
-use Rattle.calling.proofs.FirstVisits.{asked-body, asked-in-dir, clause-entry, body-run, Visiting, visiting-begins, visiting-shape, visiting-few, visiting-full, visiting-on, visiting-nearer, visiting-ends}
+use Rattle.steps.proofs.ShapeLinks.{shapesLeft}
+use Rattle.calling.proofs.ShapeVisits.{clause-entry, head-in-words}
+use Rattle.calling.proofs.FirstVisits.{asked-body, asked-in-dir, body-run, Visiting, visiting-begins, visiting-shape, visiting-few, visiting-full, visiting-on, visiting-nearer, visiting-ends}
 use Rattle.calling.proofs.calls.first_place.Statement.{statement}
 use Rattle.calling.proofs.calls.first_place.Tie as tie
 
@@ -20,7 +21,7 @@ Inv-loop words dir table₀ buckets₀ heads n at k j room start cells there fro
 
 abbrev μ-loop : tie.MeasureT-loop
 μ-loop words dir table₀ buckets₀ heads n at k j room start cells there from to order count rows₀ link₀ table buckets rows link =
-    linksLeft link
+    shapesLeft link
 
 add-wide : tie.Need-add-wide Inv-loop μ-loop
 add-wide c = let few = asked-in-dir (c .before .before .before .before .before .pre .0) in omega (arith, few .0, few .1, few .2)
@@ -61,7 +62,7 @@ wide-requires-3 c κs = search needs
 first-variables-requires : tie.Need-first-variables-requires Inv-loop μ-loop
 first-variables-requires c κs =
     let a = c .before .before .before .before .before .before .before .before .before .before .before .pre .0 in
-    omega (arith, c .wide3 .ensures .0, clause-entry (a .situation) (asked-body a (a .situation)) .few)
+    omega (arith, c .wide3 .ensures .0, clause-entry (a .situation .setting) ((asked-body a (a .situation)) .nth-clause) .few)
 
 add-wide-4 : tie.Need-add-wide-4 Inv-loop μ-loop
 add-wide-4 c = let few = asked-in-dir (c .before .before .before .before .before .before .before .before .before .before .before .before .pre .0) in omega (arith, few .0, few .1, few .2)

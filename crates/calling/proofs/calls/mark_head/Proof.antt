@@ -5,8 +5,9 @@ use borrow.Author.Needs.{needs}
 use mathlib.Core.Path.{_≡_, refl, _∙_}
 use lib.ListN.{length}
 use Rattle.steps.specs.Situation.{Situation, ClauseOf}
-use Rattle.calling.proofs.ShapeVisits.{linksLeft, head-in-words}
-use Rattle.calling.proofs.HeadVisits.{asked-clause, asked-head-in-dir, clause-entry, HeadVisiting, head-begins, head-shape, head-few, head-nearer, head-on, head-ends}
+use Rattle.steps.proofs.ShapeLinks.{shapesLeft}
+use Rattle.calling.proofs.ShapeVisits.{clause-entry, head-in-words}
+use Rattle.calling.proofs.HeadVisits.{asked-clause, asked-head-in-dir, HeadVisiting, head-begins, head-shape, head-few, head-nearer, head-on, head-ends}
 use Rattle.calling.proofs.calls.mark_head.Statement.{statement}
 use Rattle.calling.proofs.calls.mark_head.Tie as tie
 
@@ -16,7 +17,7 @@ Inv-loop words dir table heads since k found₀ rows start cells there link₀ f
     × ((w : Situation words dir table heads since rows) (b : ClauseOf (w .p) k) → HeadVisiting w b found₀ start cells there link found)
 
 abbrev μ-loop : tie.MeasureT-loop
-μ-loop words dir table heads since k found₀ rows start cells there link₀ found link = linksLeft link
+μ-loop words dir table heads since k found₀ rows start cells there link₀ found link = shapesLeft link
 
 add-wide : tie.Need-add-wide Inv-loop μ-loop
 add-wide c = let few = asked-head-in-dir (c .before .before .before .before .before .pre .0) in omega (arith, few .0, few .1)
@@ -57,7 +58,7 @@ wide-requires-3 c κs = search needs
 first-variables-requires : tie.Need-first-variables-requires Inv-loop μ-loop
 first-variables-requires c κs =
     let a = c .before .before .before .before .before .before .before .before .before .before .before .pre .0 in
-    omega (arith, c .wide3 .ensures .0, clause-entry (a .situation) (asked-clause a (a .situation)) .few)
+    omega (arith, c .wide3 .ensures .0, clause-entry (a .situation .setting) (a .clause .nth-clause) .few)
 
 mul-wide-4 : tie.Need-mul-wide-4 Inv-loop μ-loop
 mul-wide-4 c =
