@@ -1,51 +1,48 @@
--- `main` is safe. The loop's invariant: the line's numbers are within their bounds. The measure is the turns left.
+-- `main` is safe. The loop's invariant: the bytes still to be read are the buffer's. The measure is the turns left.
 -- Assumes nothing.
 use Prim.Native.Nat.{_≤_}
-use mathlib.Core.Path.{_≡_}
-use native.Mathlib.Omega.{arith}
+use mathlib.Core.Path.{_≡_, sym}
 use borrow.Author.Needs.{needs}
 use lib.ListN.{length}
+use lib.Seq.{length-take-le}
 use Rattle.program_main.proofs.main.Statement.{statement}
 use Rattle.program_main.proofs.main.Tie as tie
 
 abbrev Inv-loop : tie.InvT-loop
-Inv-loop words₀ buffer₀ line₀ turns₀ words buffer line turns = (length words ≡ 2049) × (length buffer ≡ 4096) × (line .count ≤ 2049) × (line .value ≤ 65535)
+Inv-loop words₀ buffer₀ input₀ turns₀ words buffer input turns = (length words ≡ 2049) × (length buffer ≡ 4096) × (input .end ≤ 4096)
 
 abbrev μ-loop : tie.MeasureT-loop
-μ-loop words₀ buffer₀ line₀ turns₀ words buffer line turns = turns
+μ-loop words₀ buffer₀ input₀ turns₀ words buffer input turns = turns
 
 buffer-requires : tie.Need-buffer-requires Inv-loop μ-loop
 buffer-requires c κs = search needs
 
+start-requires : tie.Need-start-requires Inv-loop μ-loop
+start-requires c κs = search needs
+
 loop-holds : tie.Need-loop-holds Inv-loop μ-loop
 loop-holds c = search needs
 
-slice-aggregate-read : tie.Need-slice-aggregate-read Inv-loop μ-loop
-slice-aggregate-read c = search needs
+slice-aggregate-next : tie.Need-slice-aggregate-next Inv-loop μ-loop
+slice-aggregate-next c = search needs
 
-read-requires : tie.Need-read-requires Inv-loop μ-loop
-read-requires c κs = search needs
+slice-aggregate-next-2 : tie.Need-slice-aggregate-next-2 Inv-loop μ-loop
+slice-aggregate-next-2 c = search needs
 
-slice-aggregate-count : tie.Need-slice-aggregate-count Inv-loop μ-loop
-slice-aggregate-count c = search needs
-
-count-requires : tie.Need-count-requires Inv-loop μ-loop
-count-requires c κs = search needs
+next-requires : tie.Need-next-requires Inv-loop μ-loop
+next-requires c κs = search needs
 
 returns : tie.Need-returns Inv-loop μ-loop
 returns c = search needs
 
-slice-aggregate-all : tie.Need-slice-aggregate-all Inv-loop μ-loop
-slice-aggregate-all c = search needs
+array-share-prefix-words : tie.Need-array-share-prefix-words Inv-loop μ-loop
+array-share-prefix-words c = search needs
 
-array-share-prefix-buffer : tie.Need-array-share-prefix-buffer Inv-loop μ-loop
-array-share-prefix-buffer c = search needs
+slice-aggregate-reply : tie.Need-slice-aggregate-reply Inv-loop μ-loop
+slice-aggregate-reply c = sym (length-take-le _ _ (array-share-prefix-words (c .before)))
 
-slice-aggregate-all-2 : tie.Need-slice-aggregate-all-2 Inv-loop μ-loop
-slice-aggregate-all-2 c = search needs
-
-all-requires : tie.Need-all-requires Inv-loop μ-loop
-all-requires c κs = search needs
+reply-requires : tie.Need-reply-requires Inv-loop μ-loop
+reply-requires c κs = search needs
 
 sub-turns : tie.Need-sub-turns Inv-loop μ-loop
 sub-turns c = search needs
@@ -66,16 +63,15 @@ main-spec =
     Inv-loop
     μ-loop
     buffer-requires
+    start-requires
     loop-holds
-    slice-aggregate-read
-    read-requires
-    slice-aggregate-count
-    count-requires
+    slice-aggregate-next
+    slice-aggregate-next-2
+    next-requires
     returns
-    slice-aggregate-all
-    array-share-prefix-buffer
-    slice-aggregate-all-2
-    all-requires
+    array-share-prefix-words
+    slice-aggregate-reply
+    reply-requires
     sub-turns
     loop-less
     loop-again

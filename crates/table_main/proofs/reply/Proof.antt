@@ -36,14 +36,14 @@ least-requires c κs = search needs
 mul-end : tie.Need-mul-end
 mul-end c = search needs
 
-slice-reshare-prefix-put-words : tie.Need-slice-reshare-prefix-put-words
-slice-reshare-prefix-put-words c = search needs
+slice-reshare-prefix-print-words : tie.Need-slice-reshare-prefix-print-words
+slice-reshare-prefix-print-words c = search needs
 
-slice-aggregate-put-words : tie.Need-slice-aggregate-put-words
-slice-aggregate-put-words c = sym (length-take-le _ _ (slice-reshare-prefix-put-words (c .before)))
+slice-aggregate-print-words : tie.Need-slice-aggregate-print-words
+slice-aggregate-print-words c = sym (length-take-le _ _ (slice-reshare-prefix-print-words (c .before)))
 
-put-words-requires : tie.Need-put-words-requires
-put-words-requires c κs = search needs
+print-words-requires : tie.Need-print-words-requires
+print-words-requires c κs = search needs
 
 mul-others : tie.Need-mul-others
 mul-others c = search needs
@@ -86,9 +86,9 @@ reply-spec =
     print-requires-3
     least-requires
     mul-end
-    slice-reshare-prefix-put-words
-    slice-aggregate-put-words
-    put-words-requires
+    slice-reshare-prefix-print-words
+    slice-aggregate-print-words
+    print-words-requires
     mul-others
     sub-others
     part-others-start

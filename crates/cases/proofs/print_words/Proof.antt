@@ -1,12 +1,10 @@
--- `put_words` is safe. The measure is the words left.
+-- `print_words` is safe. The measure is the words left.
 -- Assumes nothing.
 use Prim.Native.Nat.{_≤_, _-_}
-use mathlib.Core.Path.{_≡_}
-use native.Mathlib.Omega.{arith}
 use borrow.Author.Needs.{needs}
 use lib.ListN.{length}
-use Rattle.table_main.proofs.put_words.Statement.{statement}
-use Rattle.table_main.proofs.put_words.Tie as tie
+use Rattle.cases.proofs.print_words.Statement.{statement}
+use Rattle.cases.proofs.print_words.Tie as tie
 
 abbrev Inv-loop : tie.InvT-loop
 Inv-loop words i₀ t3 i = i ≤ length words
@@ -44,8 +42,8 @@ loop-again c = search needs
 returns : tie.Need-returns Inv-loop μ-loop
 returns c = search needs
 
-pub put-words-spec : {M : Type 1} → statement M
-put-words-spec =
+pub print-words-spec : {M : Type 1} → statement M
+print-words-spec =
     tie.close
     (tie.spec
     Inv-loop
