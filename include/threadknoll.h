@@ -60,6 +60,17 @@ uint16_t threadknoll_read(const uint8_t *text, size_t text_length,
                           size_t *place, size_t *count);
 
 /*
+ * From an encoded program with its names back to the scenario text; the count is in bytes. names_length is 16 * (words[0] + words[1]).
+ * After all faults in the words come those in the names: 1 at their length where they are too short, 7 at the first byte over, 12 at the
+ * name's byte index. A room of THREADKNOLL_MAX_TEXT bytes is always enough. What is accepted, and read again with threadknoll_read, is the
+ * same program with the same names.
+ */
+uint16_t threadknoll_write(const uint16_t *words, size_t words_length,
+                           const uint8_t *names, size_t names_length,
+                           uint8_t *text, size_t text_length,
+                           size_t *place, size_t *count);
+
+/*
  * The mode table of an encoded program; the count is in rows, and the room in rows is table_length / 5, at most 4,096.
  * An accepted table is the least set of rows closed under the mode rules, each row once, with the round in which it first appears, in
  * ascending order of the five words. In any run of the program, every atom called is covered by a call row of its shape and every atom
@@ -68,6 +79,22 @@ uint16_t threadknoll_read(const uint8_t *text, size_t text_length,
 uint16_t threadknoll_analyse(const uint16_t *words, size_t words_length,
                              uint16_t *table, size_t table_length,
                              size_t *place, size_t *count);
+
+/*
+ * The mode table of an encoded program with its names, as threadknoll_analyse leaves it, and its listing, as `modes` prints it; the count is
+ * in bytes of the listing. Room for rows comes before room for bytes; where either is too small, both buffers are zeros.
+ */
+uint16_t threadknoll_list(const uint16_t *words, size_t words_length,
+                          const uint8_t *names, size_t names_length,
+                          uint16_t *table, size_t table_length,
+                          uint8_t *listing, size_t listing_length,
+                          size_t *place, size_t *count);
+
+/* The limits, as the library has them: they are the constants above. */
+size_t threadknoll_max_text(void);
+size_t threadknoll_max_words(void);
+size_t threadknoll_max_names(void);
+size_t threadknoll_max_rows(void);
 
 #ifdef __cplusplus
 }

@@ -1,11 +1,56 @@
 // The library for the engine: the public functions under C names. `include/threadknoll.h` says in plain words what each promises.
 use analysis::analyse::analyse;
+use lister::list::list;
+use program::limits::MAX_DECLARED;
+use program::limits::MAX_ROWS;
+use program::limits::MAX_WORDS;
+use reader::read::MAX_BYTES;
 use reader::read::read;
+use text::name::NAME_BYTES;
+use writer::write::write;
 ghost use mathlib.Core.Path.{_≡_};
+ghost use Prim.Native.Nat.{_*_};
 ghost use lib.ListN.{length};
+ghost use Rattle.program.specs.Limits.{maxWords, maxRows};
+ghost use Rattle.text.specs.Name.{nameBytes, maxNames};
 ghost use Rattle.table.specs.Table.{Promise};
+ghost use Rattle.reader.specs.Read.{maxBytes};
 ghost use Rattle.reader.specs.Read as reads;
+ghost use Rattle.writer.specs.Write as writes;
+ghost use Rattle.lister.specs.Listed.{Listed};
 ghost use Rattle.threadknoll.specs.Told.{told};
+
+// "At most 40,960 bytes."
+#[no_mangle]
+pub extern "C" fn threadknoll_max_text() -> usize
+    ensures { λ r. ⌜ r ≡ maxBytes ⌝ }
+{
+    MAX_BYTES
+}
+
+// "at most 2,048" words
+#[no_mangle]
+pub extern "C" fn threadknoll_max_words() -> usize
+    ensures { λ r. ⌜ r ≡ maxWords ⌝ }
+{
+    MAX_WORDS
+}
+
+// "Each name is kept as 16 bytes": of 64 predicates and 64 functions
+#[no_mangle]
+pub extern "C" fn threadknoll_max_names() -> usize
+    ensures { λ r. ⌜ r ≡ maxNames * nameBytes ⌝ }
+{
+    2 * MAX_DECLARED * NAME_BYTES
+}
+
+// "but at most 4,096" rows
+#[no_mangle]
+pub extern "C" fn threadknoll_max_rows() -> usize
+    ensures { λ r. ⌜ r ≡ maxRows ⌝ }
+{
+    MAX_ROWS
+}
 
 // From a scenario text to an encoded program with its names.
 #[no_mangle]
@@ -26,6 +71,24 @@ pub extern "C" fn threadknoll_read(
     reply.number
 }
 
+// From an encoded program with its names back to the text.
+#[no_mangle]
+pub extern "C" fn threadknoll_write(
+    words: &[u16],
+    names: &[u8],
+    text: &mut [u8],
+    place: &mut usize,
+    count: &mut usize,
+) -> u16
+    ensures reply { λ number. ⌜ told number (now (place .exit)) (now (count .exit)) ≡ writes.replyOf (writes.answerOf (now (words .entry)) (now (names .entry)) (length (now (text .entry)))) ⌝ }
+    ensures of_text { λ _. ⌜ now (text .exit) ≡ writes.textIn (length (now (text .entry))) (writes.answerOf (now (words .entry)) (now (names .entry)) (length (now (text .entry)))) ⌝ }
+{
+    let reply = write(words, names, text);
+    *place = reply.place;
+    *count = reply.count;
+    reply.number
+}
+
 // The mode table of an encoded program.
 #[no_mangle]
 pub extern "C" fn threadknoll_analyse(
@@ -37,6 +100,24 @@ pub extern "C" fn threadknoll_analyse(
     ensures { λ number. ⌜ Promise (now (words .entry)) (length (now (table .entry))) (told number (now (place .exit)) (now (count .exit))) (now (table .exit)) ⌝ }
 {
     let reply = analyse(words, table);
+    *place = reply.place;
+    *count = reply.count;
+    reply.number
+}
+
+// The mode table of an encoded program with its names, and its listing.
+#[no_mangle]
+pub extern "C" fn threadknoll_list(
+    words: &[u16],
+    names: &[u8],
+    table: &mut [u16],
+    out: &mut [u8],
+    place: &mut usize,
+    count: &mut usize,
+) -> u16
+    ensures { λ number. ⌜ Listed (now (words .entry)) (now (names .entry)) (length (now (table .entry))) (length (now (out .entry))) (told number (now (place .exit)) (now (count .exit))) (now (table .exit)) (now (out .exit)) ⌝ }
+{
+    let reply = list(words, names, table, out);
     *place = reply.place;
     *count = reply.count;
     reply.number
