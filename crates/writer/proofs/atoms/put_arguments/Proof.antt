@@ -71,6 +71,7 @@ loop-less c =
 
 loop-again : tie.Need-loop-again Inv-loop μ-loop
 loop-again c =
+    let at-put-argument = c .before .before .before in
     let l = c .before .before .before .before .before .before .before in
     let s = l .before .before .before .before .before .before .args in
     λ a.
@@ -78,9 +79,9 @@ loop-again c =
     let token : ℕ → List ℕ = argumentToken (s .names .now) (s .predicates) (s .modes .now) in (
       rw (c .arity-of .ensures .0) (n .on),
       rw add-one
-          (subst (λ (t : List ℕ). Put t (s .out .now) (c .before .before .before .put-argument .last .0) (s .from) (c .before .before .before .put-argument .result))
+          (subst (λ (t : List ℕ). Put t (s .out .now) (at-put-argument .put-argument .last .0) (s .from) (at-put-argument .put-argument .result))
           (tabs-more token (encs (a .terms)) (l .loop .at) (n .of-all))
-          (put-append (l .loop .inv a .1) (rw (n .same) (c .before .before .before .put-argument .ensures)))),
+          (put-append (l .loop .inv a .1) (rw (n .same) (at-put-argument .put-argument .ensures)))),
     )
 
 same-length : tie.Need-same-length Inv-loop μ-loop

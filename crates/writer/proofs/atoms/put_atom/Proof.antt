@@ -23,8 +23,9 @@ wide-requires c κs = search needs
 
 put-symbol-requires : tie.Need-put-symbol-requires
 put-symbol-requires c κs =
-    let d = atom-declared _ _ _ _ (c .before .before .before .before .before .before .before .before .before .pre .0) in
-    record { few = omega (arith, c .before .wide .ensures .0, c .before .before .before .before .before .before .before .before .before .pre .1 .few); within = omega (arith, c .before .wide .ensures .0, c .before .before .before .before .before .before .before .before .before .pre .1 .size) }
+    let s = c .before .before .before .before .before .before .before .before .before in
+    let d = atom-declared _ _ _ _ (s .pre .0) in
+    record { few = omega (arith, c .before .wide .ensures .0, s .pre .1 .few); within = omega (arith, c .before .wide .ensures .0, s .pre .1 .size) }
 
 add-next : tie.Need-add-next
 add-next c = omega (arith, atom-within _ _ _ _ (c .before .before .before .before .before .before .before .before .before .before .before .before .pre .0))
@@ -52,33 +53,43 @@ part-put-arguments-end c = search needs
 
 put-arguments-requires : tie.Need-put-arguments-requires
 put-arguments-requires c κs =
-    let n = c .before .before .wide2 .ensures .0 ∙ ap (λ (q : ℕ). getD (c .before .before .before .before .before .before .before .before .before .before .before .before .before .before .before .before .args .predicates .now) q 0) (c .before .before .before .before .before .before .before .before .wide .ensures .0) in
-    (arguments-run _ _ _ _ (c .before .before .before .before .before .before .before .before .before .before .before .before .before .before .before .before .pre .0) (c .before .before .wide2 .result) n, c .before .before .before .before .before .before .before .before .before .before .before .before .before .before .before .before .pre .1)
+    let at-wide2 = c .before .before in
+    let s = c .before .before .before .before .before .before .before .before .before .before .before .before .before .before .before .before in
+    let n = at-wide2 .wide2 .ensures .0 ∙ ap (λ (q : ℕ). getD (s .args .predicates .now) q 0) (c .before .before .before .before .before .before .before .before .wide .ensures .0) in
+    (arguments-run _ _ _ _ (s .pre .0) (at-wide2 .wide2 .result) n, s .pre .1)
 
 add-t14 : tie.Need-add-t14
 add-t14 c =
-    let n = c .before .before .before .before .before .before .wide2 .ensures .0 ∙ ap (λ (q : ℕ). getD (c .before .before .before .before .before .before .before .before .before .before .before .before .before .before .before .before .before .before .before .before .args .predicates .now) q 0) (c .before .before .before .before .before .before .before .before .before .before .before .before .wide .ensures .0) in
-    let w = c .before .before .before .put-arguments .ensures (arguments-run _ _ _ _ (c .before .before .before .before .before .before .before .before .before .before .before .before .before .before .before .before .before .before .before .before .pre .0) (c .before .before .before .before .before .before .wide2 .result) n) in
-    omega (arith, tail-within _ _ _ _ (c .before .before .before .before .before .before .before .before .before .before .before .before .before .before .before .before .before .before .before .before .pre .0) (c .before .before .before .put-arguments .result .at) (w .within))
+    let at-put-arguments = c .before .before .before in
+    let at-wide2 = c .before .before .before .before .before .before in
+    let s = c .before .before .before .before .before .before .before .before .before .before .before .before .before .before .before .before .before .before .before .before in
+    let n = at-wide2 .wide2 .ensures .0 ∙ ap (λ (q : ℕ). getD (s .args .predicates .now) q 0) (c .before .before .before .before .before .before .before .before .before .before .before .before .wide .ensures .0) in
+    let w = at-put-arguments .put-arguments .ensures (arguments-run _ _ _ _ (s .pre .0) (at-wide2 .wide2 .result) n) in
+    omega (arith, tail-within _ _ _ _ (s .pre .0) (at-put-arguments .put-arguments .result .at) (w .within))
 
 same-length : tie.Need-same-length
 same-length c =
-    let n = c .before .before .before .before .before .before .wide2 .ensures .0 ∙ ap (λ (q : ℕ). getD (c .before .before .before .before .before .before .before .before .before .before .before .before .before .before .before .before .before .before .before .before .args .predicates .now) q 0) (c .before .before .before .before .before .before .before .before .before .before .before .before .wide .ensures .0) in
-    let w = c .before .before .before .put-arguments .ensures (arguments-run _ _ _ _ (c .before .before .before .before .before .before .before .before .before .before .before .before .before .before .before .before .before .before .before .before .pre .0) (c .before .before .before .before .before .before .wide2 .result) n) in
+    let at-wide2 = c .before .before .before .before .before .before in
+    let s = c .before .before .before .before .before .before .before .before .before .before .before .before .before .before .before .before .before .before .before .before in
+    let n = at-wide2 .wide2 .ensures .0 ∙ ap (λ (q : ℕ). getD (s .args .predicates .now) q 0) (c .before .before .before .before .before .before .before .before .before .before .before .before .wide .ensures .0) in
+    let w = c .before .before .before .put-arguments .ensures (arguments-run _ _ _ _ (s .pre .0) (at-wide2 .wide2 .result) n) in
     put-length (w .put) ∙ put-length (c .before .before .before .before .before .before .before .before .before .before .put-symbol .ensures)
 
 returns : tie.Need-returns
 returns c =
+    let at-put-arguments = c .before .before .before in
+    let at-wide2 = c .before .before .before .before .before .before in
+    let at-wide = c .before .before .before .before .before .before .before .before .before .before .before .before in
     let s = c .before .before .before .before .before .before .before .before .before .before .before .before .before .before .before .before .before .before .before .before .args in
-    let n = c .before .before .before .before .before .before .wide2 .ensures .0 ∙ ap (λ (q : ℕ). getD (s .predicates .now) q 0) (c .before .before .before .before .before .before .before .before .before .before .before .before .wide .ensures .0) in
+    let n = at-wide2 .wide2 .ensures .0 ∙ ap (λ (q : ℕ). getD (s .predicates .now) q 0) (at-wide .wide .ensures .0) in
     λ a.
-    let w = c .before .before .before .put-arguments .ensures (arguments-run _ _ _ _ a (c .before .before .before .before .before .before .wide2 .result) n) in
+    let w = at-put-arguments .put-arguments .ensures (arguments-run _ _ _ _ a (at-wide2 .wide2 .result) n) in
     record {
-      to-come = tail-behind _ _ _ _ a (c .before .before .before .put-arguments .result .at) (w .to-come);
-      within = tail-within _ _ _ _ a (c .before .before .before .put-arguments .result .at) (w .within);
+      to-come = tail-behind _ _ _ _ a (at-put-arguments .put-arguments .result .at) (w .to-come);
+      within = tail-within _ _ _ _ a (at-put-arguments .put-arguments .result .at) (w .within);
       put =
-          subst (λ (t : List ℕ). Put t (s .out .now) (c .before .before .before .put-arguments .last .0) (s .from) (c .before .before .before .put-arguments .result .end))
-          (atom-text _ _ _ _ a (s .names .now) (s .modes .now) (length (s .predicates .now)) (c .before .before .before .before .before .before .before .before .before .before .before .before .wide .result) (c .before .before .before .before .before .before .before .before .before .before .before .before .wide .ensures .0))
+          subst (λ (t : List ℕ). Put t (s .out .now) (at-put-arguments .put-arguments .last .0) (s .from) (at-put-arguments .put-arguments .result .end))
+          (atom-text _ _ _ _ a (s .names .now) (s .modes .now) (length (s .predicates .now)) (at-wide .wide .result) (at-wide .wide .ensures .0))
           (put-append (c .before .before .before .before .before .before .before .before .before .before .put-symbol .ensures) (w .put));
     }
 

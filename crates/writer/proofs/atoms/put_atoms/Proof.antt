@@ -32,7 +32,9 @@ slice-aggregate-put-atom : tie.Need-slice-aggregate-put-atom Inv-loop μ-loop
 slice-aggregate-put-atom c = search needs
 
 put-atom-requires : tie.Need-put-atom-requires Inv-loop μ-loop
-put-atom-requires c κs = (next-atom _ _ _ _ _ (c .before .before .before .before .before .before .before .before .before .pre .0) _ _ (c .before .before .before .loop .inv .1 (c .before .before .before .before .before .before .before .before .before .pre .0) .0) (c .before .before .loop-test .taken), c .before .before .before .before .before .before .before .before .before .pre .1)
+put-atom-requires c κs =
+    let s = c .before .before .before .before .before .before .before .before .before in
+    (next-atom _ _ _ _ _ (s .pre .0) _ _ (c .before .before .before .loop .inv .1 (s .pre .0) .0) (c .before .before .loop-test .taken), s .pre .1)
 
 add-i : tie.Need-add-i Inv-loop μ-loop
 add-i c = omega arith
@@ -42,15 +44,16 @@ loop-less c = omega arith
 
 loop-again : tie.Need-loop-again Inv-loop μ-loop
 loop-again c =
+    let at-put-atom = c .before .before in
     let s = c .before .before .before .before .before .before .before .before .before .before .before .before .args in (
       omega arith,
       λ a.
           let inv = c .before .before .before .before .before .before .loop .inv .1 a in
           let h = c .before .before .before .before .before .loop-test .taken in
-          let w = c .before .before .put-atom .ensures (next-atom _ _ _ _ _ a _ _ (inv .0) h) in
+          let w = at-put-atom .put-atom .ensures (next-atom _ _ _ _ _ a _ _ (inv .0) h) in
           rw add-one (
             record { cut = w .to-come; within = w .within },
-            subst (λ (t : List ℕ). Put t (s .out .now) (c .before .before .put-atom .last .0) (s .from) (c .before .before .put-atom .result .end))
+            subst (λ (t : List ℕ). Put t (s .out .now) (at-put-atom .put-atom .last .0) (s .from) (at-put-atom .put-atom .result .end))
                 (next-atom-text _ _ _ _ _ a _ _ (inv .0) h (s .names .now) (length (s .predicates .now)))
                 (put-append (inv .1) (w .put)),
           ),

@@ -31,22 +31,26 @@ put-bytes-requires c κs = search needs
 
 put-atoms-requires : tie.Need-put-atoms-requires
 put-atoms-requires c κs =
-    let h = clause-within _ _ _ _ (c .before .before .before .before .before .before .before .before .before .before .before .before .before .pre .0) in
-    (clause-atoms _ _ _ _ (c .before .before .before .before .before .before .before .before .before .before .before .before .before .pre .0) (c .before .before .before .before .before .before .wide .result) (c .before .before .before .before .before .before .wide .ensures .0), c .before .before .before .before .before .before .before .before .before .before .before .before .before .pre .1, omega arith)
+    let at-wide = c .before .before .before .before .before .before in
+    let s = c .before .before .before .before .before .before .before .before .before .before .before .before .before in
+    let h = clause-within _ _ _ _ (s .pre .0) in
+    (clause-atoms _ _ _ _ (s .pre .0) (at-wide .wide .result) (at-wide .wide .ensures .0), s .pre .1, omega arith)
 
 put-byte-requires : tie.Need-put-byte-requires
 put-byte-requires c κs = search needs
 
 same-length : tie.Need-same-length
 same-length c =
+    let at-wide = c .before .before .before .before .before .before .before .before .before .before .before .before .before in
     put-length (c .before .before .put-byte .ensures)
-    ∙ put-length (c .before .before .before .before .before .before .put-atoms .ensures (clause-atoms _ _ _ _ (c .before .before .before .before .before .before .before .before .before .before .before .before .before .before .before .before .before .before .before .before .pre .0) (c .before .before .before .before .before .before .before .before .before .before .before .before .before .wide .result) (c .before .before .before .before .before .before .before .before .before .before .before .before .before .wide .ensures .0)) .put)
+    ∙ put-length (c .before .before .before .before .before .before .put-atoms .ensures (clause-atoms _ _ _ _ (c .before .before .before .before .before .before .before .before .before .before .before .before .before .before .before .before .before .before .before .before .pre .0) (at-wide .wide .result) (at-wide .wide .ensures .0)) .put)
     ∙ put-length (c .before .before .before .before .before .before .before .before .before .before .put-bytes .ensures)
 
 returns : tie.Need-returns
 returns c =
+    let at-wide = c .before .before .before .before .before .before .before .before .before .before .before .before .before in
     λ a.
-    let w = c .before .before .before .before .before .before .put-atoms .ensures (clause-atoms _ _ _ _ a (c .before .before .before .before .before .before .before .before .before .before .before .before .before .wide .result) (c .before .before .before .before .before .before .before .before .before .before .before .before .before .wide .ensures .0)) in
+    let w = c .before .before .before .before .before .before .put-atoms .ensures (clause-atoms _ _ _ _ a (at-wide .wide .result) (at-wide .wide .ensures .0)) in
     record { to-come = w .to-come; within = w .within; put = put-append (put-append (c .before .before .before .before .before .before .before .before .before .before .put-bytes .ensures) (w .put)) (c .before .before .put-byte .ensures) }
 
 pub put-clause-spec : {M : Type 1} → statement M

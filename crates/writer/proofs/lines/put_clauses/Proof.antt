@@ -28,7 +28,9 @@ loop-holds : tie.Need-loop-holds Inv-loop μ-loop
 loop-holds c = (omega arith, λ a. (record { cut = a .cut; within = c .before .before .before .before .before .pre .2 }, put-nothing _ _))
 
 put-clause-requires : tie.Need-put-clause-requires Inv-loop μ-loop
-put-clause-requires c κs = (next-clause _ _ _ _ _ (c .before .before .before .before .before .before .before .before .pre .0) _ _ (c .before .before .loop .inv .1 (c .before .before .before .before .before .before .before .before .pre .0) .0) (c .before .loop-test .taken), c .before .before .before .before .before .before .before .before .pre .1)
+put-clause-requires c κs =
+    let s = c .before .before .before .before .before .before .before .before in
+    (next-clause _ _ _ _ _ (s .pre .0) _ _ (c .before .before .loop .inv .1 (s .pre .0) .0) (c .before .loop-test .taken), s .pre .1)
 
 add-i : tie.Need-add-i Inv-loop μ-loop
 add-i c = omega arith
@@ -38,15 +40,16 @@ loop-less c = omega arith
 
 loop-again : tie.Need-loop-again Inv-loop μ-loop
 loop-again c =
+    let at-put-clause = c .before .before in
     let s = c .before .before .before .before .before .before .before .before .before .before .before .args in (
       omega arith,
       λ a.
           let inv = c .before .before .before .before .before .loop .inv .1 a in
           let h = c .before .before .before .before .loop-test .taken in
-          let w = c .before .before .put-clause .ensures (next-clause _ _ _ _ _ a _ _ (inv .0) h) in
+          let w = at-put-clause .put-clause .ensures (next-clause _ _ _ _ _ a _ _ (inv .0) h) in
           rw add-one (
             record { cut = w .to-come; within = w .within },
-            subst (λ (t : List ℕ). Put t (s .out .now) (c .before .before .put-clause .last .0) (s .from) (c .before .before .put-clause .result .end))
+            subst (λ (t : List ℕ). Put t (s .out .now) (at-put-clause .put-clause .last .0) (s .from) (at-put-clause .put-clause .result .end))
                 (next-clause-text _ _ _ _ _ a _ _ (inv .0) h (s .names .now) (length (s .predicates .now)))
                 (put-append (inv .1) (w .put)),
           ),

@@ -31,10 +31,11 @@ same-length c = search needs
 
 returns : tie.Need-returns
 returns c =
+    let at-put-byte2 = c .before .before in
     let a = c .before .before .before .before .before .before .before .before .before .before .before .before .before .before .before .before .before .before .before .before .before .before .before .args in
-    subst (λ (t : List ℕ). Put t (a .out .now) (c .before .before .put-byte2 .last .0) (a .from) (c .before .before .put-byte2 .result))
+    subst (λ (t : List ℕ). Put t (a .out .now) (at-put-byte2 .put-byte2 .last .0) (a .from) (at-put-byte2 .put-byte2 .result))
     (declaration-text (a .keyword .now) (symbolToken (a .names .now) (a .n)) (decimal (a .arity)))
-    (put-append (put-append (put-append (put-append (c .before .before .before .before .before .before .before .before .before .before .before .before .before .before .before .before .before .before .put-bytes .ensures) (c .before .before .before .before .before .before .before .before .before .before .before .before .before .before .put-symbol .ensures)) (c .before .before .before .before .before .before .before .before .before .before .put-byte .ensures)) (c .before .before .before .before .before .before .put-number .ensures)) (c .before .before .put-byte2 .ensures))
+    (put-append (put-append (put-append (put-append (c .before .before .before .before .before .before .before .before .before .before .before .before .before .before .before .before .before .before .put-bytes .ensures) (c .before .before .before .before .before .before .before .before .before .before .before .before .before .before .put-symbol .ensures)) (c .before .before .before .before .before .before .before .before .before .before .put-byte .ensures)) (c .before .before .before .before .before .before .put-number .ensures)) (at-put-byte2 .put-byte2 .ensures))
 
 pub put-declaration-spec : {M : Type 1} → statement M
 put-declaration-spec =

@@ -42,14 +42,15 @@ loop-less c = omega arith
 
 loop-again : tie.Need-loop-again Inv-loop μ-loop
 loop-again c =
+    let at-put-declaration = c .before .before in
     let l = c .before .before .before .before .before .before in
     let a = l .before .before .before .before .before .args in
     let i = l .loop .i in (
       omega arith,
       rw add-one
-          (subst (λ (t : List ℕ). Put t (a .out .now) (c .before .before .put-declaration .last .0) (a .from) (c .before .before .put-declaration .result))
+          (subst (λ (t : List ℕ). Put t (a .out .now) (at-put-declaration .put-declaration .last .0) (a .from) (at-put-declaration .put-declaration .result))
           (declarations-more (a .keyword .now) (a .names .now) (a .first) (a .arities .now) i (omega arith))
-          (put-append (l .loop .inv .1) (c .before .before .put-declaration .ensures))),
+          (put-append (l .loop .inv .1) (at-put-declaration .put-declaration .ensures))),
     )
 
 same-length : tie.Need-same-length Inv-loop μ-loop

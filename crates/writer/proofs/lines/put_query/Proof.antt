@@ -20,13 +20,15 @@ atom-end-requires c κs = goal-atom-from _ _ _ _ (c .before .before .before .bef
 
 add-first : tie.Need-add-first
 add-first c =
-    let a = c .before .before .before .before .before .before .pre .0 in
-    omega (arith, query-count _ _ _ _ a (c .atom-end .result) (c .atom-end .ensures (goal-atom-from _ _ _ _ a)), c .before .before .before .before .before .before .pre .2)
+    let s = c .before .before .before .before .before .before in
+    let a = s .pre .0 in
+    omega (arith, query-count _ _ _ _ a (c .atom-end .result) (c .atom-end .ensures (goal-atom-from _ _ _ _ a)), s .pre .2)
 
 mul-wide : tie.Need-mul-wide
 mul-wide c =
-    let a = c .before .before .before .before .before .before .pre .0 in
-    omega (arith, query-count _ _ _ _ a (c .atom-end .result) (c .atom-end .ensures (goal-atom-from _ _ _ _ a)), c .before .before .before .before .before .before .pre .2)
+    let s = c .before .before .before .before .before .before in
+    let a = s .pre .0 in
+    omega (arith, query-count _ _ _ _ a (c .atom-end .result) (c .atom-end .ensures (goal-atom-from _ _ _ _ a)), s .pre .2)
 
 shared-slice-read-wide : tie.Need-shared-slice-read-wide
 shared-slice-read-wide c =
@@ -38,8 +40,10 @@ wide-requires c κs = search needs
 
 add-last : tie.Need-add-last
 add-last c =
-    let a = c .before .before .before .before .before .before .before .before .pre .0 in
-    omega (arith, query-within _ _ _ _ a (c .before .before .atom-end .result) (c .before .before .atom-end .ensures (goal-atom-from _ _ _ _ a)), c .wide .ensures .0, c .before .before .before .before .before .before .before .before .pre .2)
+    let at-atom-end = c .before .before in
+    let s = c .before .before .before .before .before .before .before .before in
+    let a = s .pre .0 in
+    omega (arith, query-within _ _ _ _ a (at-atom-end .atom-end .result) (at-atom-end .atom-end .ensures (goal-atom-from _ _ _ _ a)), c .wide .ensures .0, s .pre .2)
 
 slice-aggregate-put-bytes : tie.Need-slice-aggregate-put-bytes
 slice-aggregate-put-bytes c = search needs
@@ -49,8 +53,10 @@ put-bytes-requires c κs = search needs
 
 mul-put-atom : tie.Need-mul-put-atom
 mul-put-atom c =
-    let a = c .before .before .before .before .before .before .before .before .before .before .before .before .before .before .pre .0 in
-    omega (arith, query-count _ _ _ _ a (c .before .before .before .before .before .before .before .before .atom-end .result) (c .before .before .before .before .before .before .before .before .atom-end .ensures (goal-atom-from _ _ _ _ a)), c .before .before .before .before .before .before .before .before .before .before .before .before .before .before .pre .2)
+    let at-atom-end = c .before .before .before .before .before .before .before .before in
+    let s = c .before .before .before .before .before .before .before .before .before .before .before .before .before .before in
+    let a = s .pre .0 in
+    omega (arith, query-count _ _ _ _ a (at-atom-end .atom-end .result) (at-atom-end .atom-end .ensures (goal-atom-from _ _ _ _ a)), s .pre .2)
 
 sub-put-atom : tie.Need-sub-put-atom
 sub-put-atom c = omega arith
@@ -60,11 +66,14 @@ part-put-atom-start c = omega arith
 
 part-put-atom-end : tie.Need-part-put-atom-end
 part-put-atom-end c =
+    let at-atom-end = c .before .before .before .before .before .before .before .before in
     let a = c .before .before .before .before .before .before .before .before .before .before .before .before .before .before .pre .0 in
-    omega (arith, query-within _ _ _ _ a (c .before .before .before .before .before .before .before .before .atom-end .result) (c .before .before .before .before .before .before .before .before .atom-end .ensures (goal-atom-from _ _ _ _ a)), c .before .before .before .before .before .before .wide .ensures .0)
+    omega (arith, query-within _ _ _ _ a (at-atom-end .atom-end .result) (at-atom-end .atom-end .ensures (goal-atom-from _ _ _ _ a)), c .before .before .before .before .before .before .wide .ensures .0)
 
 put-atom-requires : tie.Need-put-atom-requires
-put-atom-requires c κs = (goal-atom-from _ _ _ _ (c .before .before .before .before .before .before .before .before .before .before .before .before .before .before .before .pre .0), c .before .before .before .before .before .before .before .before .before .before .before .before .before .before .before .pre .1)
+put-atom-requires c κs =
+    let s = c .before .before .before .before .before .before .before .before .before .before .before .before .before .before .before in
+    (goal-atom-from _ _ _ _ (s .pre .0), s .pre .1)
 
 put-byte-requires : tie.Need-put-byte-requires
 put-byte-requires c κs = search needs
@@ -75,13 +84,16 @@ same-length c =
 
 returns : tie.Need-returns
 returns c =
+    let at-put-byte = c .before .before in
+    let at-wide = c .before .before .before .before .before .before .before .before .before .before .before .before .before .before in
+    let at-atom-end = c .before .before .before .before .before .before .before .before .before .before .before .before .before .before .before .before in
     let s = c .before .before .before .before .before .before .before .before .before .before .before .before .before .before .before .before .before .before .before .before .before .before .args in
     λ a.
-    let e = c .before .before .before .before .before .before .before .before .before .before .before .before .before .before .before .before .atom-end .ensures (goal-atom-from _ _ _ _ a) in
+    let e = at-atom-end .atom-end .ensures (goal-atom-from _ _ _ _ a) in
     let w = c .before .before .before .before .before .before .put-atom .ensures (goal-atom-from _ _ _ _ a) .put in
-    subst (λ (modes : List ℕ). Put (line query (atomTokens (s .names .now) (length (s .predicates .now)) modes (enc (a .goal)))) (s .out .now) (c .before .before .put-byte .last .0) (s .from) (c .before .before .put-byte .result))
-    (query-modes _ _ _ _ a (c .before .before .before .before .before .before .before .before .before .before .before .before .before .before .before .before .atom-end .result) e (c .before .before .before .before .before .before .before .before .before .before .before .before .before .before .wide .result) (c .before .before .before .before .before .before .before .before .before .before .before .before .before .before .wide .ensures .0))
-    (put-append (put-append (c .before .before .before .before .before .before .before .before .before .before .before .put-bytes .ensures) w) (c .before .before .put-byte .ensures))
+    subst (λ (modes : List ℕ). Put (line query (atomTokens (s .names .now) (length (s .predicates .now)) modes (enc (a .goal)))) (s .out .now) (at-put-byte .put-byte .last .0) (s .from) (at-put-byte .put-byte .result))
+    (query-modes _ _ _ _ a (at-atom-end .atom-end .result) e (at-wide .wide .result) (at-wide .wide .ensures .0))
+    (put-append (put-append (c .before .before .before .before .before .before .before .before .before .before .before .put-bytes .ensures) w) (at-put-byte .put-byte .ensures))
 
 pub put-query-spec : {M : Type 1} → statement M
 put-query-spec =

@@ -36,8 +36,9 @@ mul-t10 c = omega arith
 
 returns : tie.Need-returns Inv-loop μ-loop
 returns c =
+    let at-loop = c .before .before .before .before in
     let a = c .before .before .before .before .before .before .args in
-    sym (ap namesReply (c .before .before .before .before .loop .inv .3 ∙ each-stops (a .names .now) (a .predicates) (c .before .before .before .before .loop .i) (a .symbols) (omega arith) (sym (c .before .is-sound .ensures (c .before .before .before .before .loop .inv .2)) ∙ not-true _ (c .if1 .taken))))
+    sym (ap namesReply (at-loop .loop .inv .3 ∙ each-stops (a .names .now) (a .predicates) (at-loop .loop .i) (a .symbols) (omega arith) (sym (c .before .is-sound .ensures (at-loop .loop .inv .2)) ∙ not-true _ (c .if1 .taken))))
 
 name-at-requires : tie.Need-name-at-requires Inv-loop μ-loop
 name-at-requires c κs = record { few = omega arith; within = omega arith }
@@ -59,12 +60,13 @@ loop-less c = omega arith
 
 loop-again : tie.Need-loop-again Inv-loop μ-loop
 loop-again c =
+    let at-loop = c .before .before .before .before .before .before in
     let a = c .before .before .before .before .before .before .before .before .args in
-    let i = c .before .before .before .before .before .before .loop .i in (
+    let i = at-loop .loop .i in (
       omega arith,
-      length-set (c .before .before .before .before .before .before .loop .marks) i (c .mark-of .result) ∙ c .before .before .before .before .before .before .loop .inv .1,
-      marked-more (a .names .now) (c .before .before .before .before .before .before .loop .marks) i (c .mark-of .result) (omega arith) (c .mark-of .ensures ∙ ap markOf (c .before .name-at .ensures)) (c .before .before .before .before .before .before .loop .inv .2),
-      rw add-one (c .before .before .before .before .before .before .loop .inv .3 ∙ each-goes-on (a .names .now) (a .predicates) i (a .symbols) (omega arith) (sym (c .before .before .before .is-sound .ensures (c .before .before .before .before .before .before .loop .inv .2)) ∙ not-false _ (c .before .before .if1 .left))),
+      length-set (at-loop .loop .marks) i (c .mark-of .result) ∙ at-loop .loop .inv .1,
+      marked-more (a .names .now) (at-loop .loop .marks) i (c .mark-of .result) (omega arith) (c .mark-of .ensures ∙ ap markOf (c .before .name-at .ensures)) (at-loop .loop .inv .2),
+      rw add-one (at-loop .loop .inv .3 ∙ each-goes-on (a .names .now) (a .predicates) i (a .symbols) (omega arith) (sym (c .before .before .before .is-sound .ensures (at-loop .loop .inv .2)) ∙ not-false _ (c .before .before .if1 .left))),
     )
 
 returns-2 : tie.Need-returns-2 Inv-loop μ-loop

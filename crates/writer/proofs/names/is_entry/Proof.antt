@@ -27,8 +27,9 @@ is-name-requires c κs = search needs
 
 returns : tie.Need-returns
 returns c =
+    let at-find = c .before .before .before in
     let key = c .before .before .before .before .before .args .key .now in
-    let front = name-front key (c .before .before .before .find .result) (c .before .before .before .find .ensures) in
+    let front = name-front key (at-find .find .result) (at-find .find .ensures) in
     rw (sym (ap isName front) ∙ sym (c .before .is-name .ensures) ∙ not-true _ (c .if1 .taken))
 
 pad-requires : tie.Need-pad-requires
@@ -42,8 +43,9 @@ same-bytes-requires c κs = search needs
 
 returns-2 : tie.Need-returns-2
 returns-2 c =
+    let at-find = c .before .before .before .before .before .before in
     let key = c .before .before .before .before .before .before .before .before .args .key .now in
-    let front = name-front key (c .before .before .before .before .before .before .find .result) (c .before .before .before .before .before .before .find .ensures) in
+    let front = name-front key (at-find .find .result) (at-find .find .ensures) in
     rw (sym (ap isName front) ∙ sym (c .before .before .before .before .is-name .ensures) ∙ not-false _ (c .before .before .before .if1 .left))
     (c .same-bytes .ensures ∙ ap (λ (l : List ℕ). same l key) (c .before .before .pad .ensures ∙ ap padded front))
 

@@ -29,17 +29,19 @@ first-of-requires c κs = search needs
 
 find-name-requires : tie.Need-find-name-requires
 find-name-requires c κs =
-    let a = c .before .before .before .before .before .before .args in
+    let s = c .before .before .before .before .before .before in
+    let a = s .args in
     let w = first-within (a .predicates) (a .i) in
-    (ap length (c .before .before .before .name-at .ensures) ∙ length-entry (a .names .now) (a .i) (c .before .before .before .before .before .before .pre .0 .within), omega (arith, c .before .before .before .before .before .before .pre .0 .within), omega (arith, c .before .before .before .before .before .before .pre .0 .few), omega (arith, c .before .before .before .before .before .before .pre .0 .few), omega (arith, c .first-of .ensures))
+    (ap length (c .before .before .before .name-at .ensures) ∙ length-entry (a .names .now) (a .i) (s .pre .0 .within), omega (arith, s .pre .0 .within), omega (arith, s .pre .0 .few), omega (arith, s .pre .0 .few), omega (arith, c .first-of .ensures))
 
 returns-2 : tie.Need-returns-2
 returns-2 c =
+    let at-name-at = c .before .before .before .before in
     let a = c .before .before .before .before .before .before .before .args in
     let names = a .names .now in
-    λ m. rw (sym (ap isEntry (c .before .before .before .before .name-at .ensures)) ∙ sym (c .before .before .before .is-entry .ensures) ∙ not-false _ (c .before .before .if1 .left))
+    λ m. rw (sym (ap isEntry (at-name-at .name-at .ensures)) ∙ sym (c .before .before .before .is-entry .ensures) ∙ not-false _ (c .before .before .if1 .left))
     (ap (λ (k : ℕ). eqb k (a .i)) (c .find-name .ensures .0 (λ k l h. m k (omega arith) h)
-    ∙ ap (λ (key : List ℕ). seek names key (c .before .first-of .result) (a .i - c .before .first-of .result)) (c .before .before .before .before .name-at .ensures)
+    ∙ ap (λ (key : List ℕ). seek names key (c .before .first-of .result) (a .i - c .before .first-of .result)) (at-name-at .name-at .ensures)
     ∙ ap (λ (f : ℕ). seek names (entry names (a .i)) f (a .i - f)) (c .before .first-of .ensures)))
 
 pub is-sound-spec : {M : Type 1} → statement M

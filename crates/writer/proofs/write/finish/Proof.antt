@@ -14,7 +14,9 @@ same-length : tie.Need-same-length
 same-length c = search needs
 
 returns : tie.Need-returns
-returns c = (rw (lt-ltb _ _ (c .before .before .before .before .if1 .taken)), rw (lt-ltb _ _ (c .before .before .before .before .if1 .taken)) (c .before .before .clear .ensures))
+returns c =
+    let at-if1 = c .before .before .before .before in
+    (rw (lt-ltb _ _ (at-if1 .if1 .taken)), rw (lt-ltb _ _ (at-if1 .if1 .taken)) (c .before .before .clear .ensures))
 
 clear-requires-2 : tie.Need-clear-requires-2
 clear-requires-2 c κs = search needs
@@ -24,8 +26,9 @@ same-length-2 c = search needs
 
 returns-2 : tie.Need-returns-2
 returns-2 c =
+    let at-if1 = c .before .before .before .before in
     let a = c .before .before .before .before .before .before .args in
-    (rw (le-ltb _ _ (c .before .before .before .before .if1 .left)) (ap done (sym (length-take-le (a .end) (a .text .now) (c .before .before .before .before .if1 .left)))), rw (le-ltb _ _ (c .before .before .before .before .if1 .left)) (c .before .before .clear2 .ensures))
+    (rw (le-ltb _ _ (at-if1 .if1 .left)) (ap done (sym (length-take-le (a .end) (a .text .now) (at-if1 .if1 .left)))), rw (le-ltb _ _ (at-if1 .if1 .left)) (c .before .before .clear2 .ensures))
 
 pub finish-spec : {M : Type 1} → statement M
 finish-spec =

@@ -43,9 +43,12 @@ part-predicates-start c = search needs
 
 part-predicates-end : tie.Need-part-predicates-end
 part-predicates-end c =
-    let words = c .before .before .before .before .before .before .before .before .before .args .words .now in
-    let a = c .before .before .before .before .before .before .before .before .before .pre .0 in
-    middle-within words a (c .before .before .before .before .wide .result) (c .before .before .wide2 .result) (c .wide3 .result) (c .before .before .before .before .wide .ensures .0) (c .before .before .wide2 .ensures .0) (c .wide3 .ensures .0)
+    let at-wide2 = c .before .before in
+    let at-wide = c .before .before .before .before in
+    let s = c .before .before .before .before .before .before .before .before .before in
+    let words = s .args .words .now in
+    let a = s .pre .0 in
+    middle-within words a (at-wide .wide .result) (at-wide2 .wide2 .result) (c .wide3 .result) (at-wide .wide .ensures .0) (at-wide2 .wide2 .ensures .0) (c .wide3 .ensures .0)
 
 mul-functions : tie.Need-mul-functions
 mul-functions c = search needs
@@ -58,18 +61,25 @@ part-functions-start c = search needs
 
 part-functions-end : tie.Need-part-functions-end
 part-functions-end c =
-    let words = c .before .before .before .before .before .before .before .before .before .before .args .words .now in
-    let a = c .before .before .before .before .before .before .before .before .before .before .pre .0 in
-    start-within words a (c .before .before .before .before .before .wide .result) (c .before .before .before .wide2 .result) (c .before .wide3 .result) (c .before .before .before .before .before .wide .ensures .0) (c .before .before .before .wide2 .ensures .0) (c .before .wide3 .ensures .0)
+    let at-wide2 = c .before .before .before in
+    let at-wide = c .before .before .before .before .before in
+    let s = c .before .before .before .before .before .before .before .before .before .before in
+    let words = s .args .words .now in
+    let a = s .pre .0 in
+    start-within words a (at-wide .wide .result) (at-wide2 .wide2 .result) (c .before .wide3 .result) (at-wide .wide .ensures .0) (at-wide2 .wide2 .ensures .0) (c .before .wide3 .ensures .0)
 
 slice-aggregate-put-declarations : tie.Need-slice-aggregate-put-declarations
 slice-aggregate-put-declarations c = search needs
 
 put-declarations-requires : tie.Need-put-declarations-requires
 put-declarations-requires c κs =
-    let words = c .before .before .before .before .before .before .before .before .before .before .before .before .before .args .words .now in
-    let a = c .before .before .before .before .before .before .before .before .before .before .before .before .before .pre .0 in
-    let h = named-parts words a (c .before .before .before .before .before .before .before .before .wide .result) (c .before .before .before .before .before .before .wide2 .result) (c .before .before .before .before .wide3 .result) (c .before .before .before .before .before .before .before .before .wide .ensures .0) (c .before .before .before .before .before .before .wide2 .ensures .0) (c .before .before .before .before .wide3 .ensures .0) (c .before .before .before .before .before .before .before .before .before .before .before .before .before .args .names .now) (c .before .before .before .before .before .before .before .before .before .before .before .before .before .pre .1) in
+    let at-wide3 = c .before .before .before .before in
+    let at-wide2 = c .before .before .before .before .before .before in
+    let at-wide = c .before .before .before .before .before .before .before .before in
+    let s = c .before .before .before .before .before .before .before .before .before .before .before .before .before in
+    let words = s .args .words .now in
+    let a = s .pre .0 in
+    let h = named-parts words a (at-wide .wide .result) (at-wide2 .wide2 .result) (at-wide3 .wide3 .result) (at-wide .wide .ensures .0) (at-wide2 .wide2 .ensures .0) (at-wide3 .wide3 .ensures .0) (s .args .names .now) (s .pre .1) in
     (omega (arith, h .few), omega (arith, h .size))
 
 slice-aggregate-put-declarations-2 : tie.Need-slice-aggregate-put-declarations-2
@@ -77,35 +87,54 @@ slice-aggregate-put-declarations-2 c = search needs
 
 put-declarations-requires-2 : tie.Need-put-declarations-requires-2
 put-declarations-requires-2 c κs =
-    let words = c .before .before .before .before .before .before .before .before .before .before .before .before .before .before .before .before .before .before .args .words .now in
-    let a = c .before .before .before .before .before .before .before .before .before .before .before .before .before .before .before .before .before .before .pre .0 in
-    let h = named-parts words a (c .before .before .before .before .before .before .before .before .before .before .before .before .before .wide .result) (c .before .before .before .before .before .before .before .before .before .before .before .wide2 .result) (c .before .before .before .before .before .before .before .before .before .wide3 .result) (c .before .before .before .before .before .before .before .before .before .before .before .before .before .wide .ensures .0) (c .before .before .before .before .before .before .before .before .before .before .before .wide2 .ensures .0) (c .before .before .before .before .before .before .before .before .before .wide3 .ensures .0) (c .before .before .before .before .before .before .before .before .before .before .before .before .before .before .before .before .before .before .args .names .now) (c .before .before .before .before .before .before .before .before .before .before .before .before .before .before .before .before .before .before .pre .1) in
+    let at-wide3 = c .before .before .before .before .before .before .before .before .before in
+    let at-wide2 = c .before .before .before .before .before .before .before .before .before .before .before in
+    let at-wide = c .before .before .before .before .before .before .before .before .before .before .before .before .before in
+    let s = c .before .before .before .before .before .before .before .before .before .before .before .before .before .before .before .before .before .before in
+    let words = s .args .words .now in
+    let a = s .pre .0 in
+    let h = named-parts words a (at-wide .wide .result) (at-wide2 .wide2 .result) (at-wide3 .wide3 .result) (at-wide .wide .ensures .0) (at-wide2 .wide2 .ensures .0) (at-wide3 .wide3 .ensures .0) (s .args .names .now) (s .pre .1) in
     (h .few, omega (arith, h .size))
 
 put-clauses-requires : tie.Need-put-clauses-requires
 put-clauses-requires c κs =
-    let words = c .before .before .before .before .before .before .before .before .before .before .before .before .before .before .before .before .before .before .before .before .before .before .args .words .now in
-    let a = c .before .before .before .before .before .before .before .before .before .before .before .before .before .before .before .before .before .before .before .before .before .before .pre .0 in
-    (clauses-to-come words a (c .before .before .before .before .before .before .before .before .before .before .before .before .before .before .before .before .before .wide .result) (c .before .before .before .before .before .before .before .before .before .before .before .before .before .before .before .wide2 .result) (c .before .before .before .before .before .before .before .before .before .before .before .before .before .wide3 .result) (c .before .before .before .before .before .before .before .before .before .before .before .before .before .before .before .before .before .wide .ensures .0) (c .before .before .before .before .before .before .before .before .before .before .before .before .before .before .before .wide2 .ensures .0) (c .before .before .before .before .before .before .before .before .before .before .before .before .before .wide3 .ensures .0), named-parts words a (c .before .before .before .before .before .before .before .before .before .before .before .before .before .before .before .before .before .wide .result) (c .before .before .before .before .before .before .before .before .before .before .before .before .before .before .before .wide2 .result) (c .before .before .before .before .before .before .before .before .before .before .before .before .before .wide3 .result) (c .before .before .before .before .before .before .before .before .before .before .before .before .before .before .before .before .before .wide .ensures .0) (c .before .before .before .before .before .before .before .before .before .before .before .before .before .before .before .wide2 .ensures .0) (c .before .before .before .before .before .before .before .before .before .before .before .before .before .wide3 .ensures .0) (c .before .before .before .before .before .before .before .before .before .before .before .before .before .before .before .before .before .before .before .before .before .before .args .names .now) (c .before .before .before .before .before .before .before .before .before .before .before .before .before .before .before .before .before .before .before .before .before .before .pre .1), start-within words a (c .before .before .before .before .before .before .before .before .before .before .before .before .before .before .before .before .before .wide .result) (c .before .before .before .before .before .before .before .before .before .before .before .before .before .before .before .wide2 .result) (c .before .before .before .before .before .before .before .before .before .before .before .before .before .wide3 .result) (c .before .before .before .before .before .before .before .before .before .before .before .before .before .before .before .before .before .wide .ensures .0) (c .before .before .before .before .before .before .before .before .before .before .before .before .before .before .before .wide2 .ensures .0) (c .before .before .before .before .before .before .before .before .before .before .before .before .before .wide3 .ensures .0))
+    let at-wide3 = c .before .before .before .before .before .before .before .before .before .before .before .before .before in
+    let at-wide2 = c .before .before .before .before .before .before .before .before .before .before .before .before .before .before .before in
+    let at-wide = c .before .before .before .before .before .before .before .before .before .before .before .before .before .before .before .before .before in
+    let s = c .before .before .before .before .before .before .before .before .before .before .before .before .before .before .before .before .before .before .before .before .before .before in
+    let words = s .args .words .now in
+    let a = s .pre .0 in
+    (clauses-to-come words a (at-wide .wide .result) (at-wide2 .wide2 .result) (at-wide3 .wide3 .result) (at-wide .wide .ensures .0) (at-wide2 .wide2 .ensures .0) (at-wide3 .wide3 .ensures .0), named-parts words a (at-wide .wide .result) (at-wide2 .wide2 .result) (at-wide3 .wide3 .result) (at-wide .wide .ensures .0) (at-wide2 .wide2 .ensures .0) (at-wide3 .wide3 .ensures .0) (s .args .names .now) (s .pre .1), start-within words a (at-wide .wide .result) (at-wide2 .wide2 .result) (at-wide3 .wide3 .result) (at-wide .wide .ensures .0) (at-wide2 .wide2 .ensures .0) (at-wide3 .wide3 .ensures .0))
 
 put-query-requires : tie.Need-put-query-requires
 put-query-requires c κs =
-    let words = c .before .before .before .before .before .before .before .before .before .before .before .before .before .before .before .before .before .before .before .before .before .before .before .before .before .before .args .words .now in
-    let a = c .before .before .before .before .before .before .before .before .before .before .before .before .before .before .before .before .before .before .before .before .before .before .before .before .before .before .pre .0 in
-    let w = c .before .before .before .put-clauses .ensures (clauses-to-come words a (c .before .before .before .before .before .before .before .before .before .before .before .before .before .before .before .before .before .before .before .before .before .wide .result) (c .before .before .before .before .before .before .before .before .before .before .before .before .before .before .before .before .before .before .before .wide2 .result) (c .before .before .before .before .before .before .before .before .before .before .before .before .before .before .before .before .before .wide3 .result) (c .before .before .before .before .before .before .before .before .before .before .before .before .before .before .before .before .before .before .before .before .before .wide .ensures .0) (c .before .before .before .before .before .before .before .before .before .before .before .before .before .before .before .before .before .before .before .wide2 .ensures .0) (c .before .before .before .before .before .before .before .before .before .before .before .before .before .before .before .before .before .wide3 .ensures .0)) in
-    (goal-to-come words a (c .before .before .before .before .before .before .before .before .before .before .before .before .before .before .before .before .before .before .before .before .before .wide .result) (c .before .before .before .before .before .before .before .before .before .before .before .before .before .before .before .before .before .before .before .wide2 .result) (c .before .before .before .before .before .before .before .before .before .before .before .before .before .before .before .before .before .wide3 .result) (c .before .before .before .before .before .before .before .before .before .before .before .before .before .before .before .before .before .before .before .before .before .wide .ensures .0) (c .before .before .before .before .before .before .before .before .before .before .before .before .before .before .before .before .before .before .before .wide2 .ensures .0) (c .before .before .before .before .before .before .before .before .before .before .before .before .before .before .before .before .before .wide3 .ensures .0) (c .before .before .before .put-clauses .result .at) (w .to-come), named-parts words a (c .before .before .before .before .before .before .before .before .before .before .before .before .before .before .before .before .before .before .before .before .before .wide .result) (c .before .before .before .before .before .before .before .before .before .before .before .before .before .before .before .before .before .before .before .wide2 .result) (c .before .before .before .before .before .before .before .before .before .before .before .before .before .before .before .before .before .wide3 .result) (c .before .before .before .before .before .before .before .before .before .before .before .before .before .before .before .before .before .before .before .before .before .wide .ensures .0) (c .before .before .before .before .before .before .before .before .before .before .before .before .before .before .before .before .before .before .before .wide2 .ensures .0) (c .before .before .before .before .before .before .before .before .before .before .before .before .before .before .before .before .before .wide3 .ensures .0) (c .before .before .before .before .before .before .before .before .before .before .before .before .before .before .before .before .before .before .before .before .before .before .before .before .before .before .args .names .now) (c .before .before .before .before .before .before .before .before .before .before .before .before .before .before .before .before .before .before .before .before .before .before .before .before .before .before .pre .1), words-short words a)
+    let at-put-clauses = c .before .before .before in
+    let at-wide3 = c .before .before .before .before .before .before .before .before .before .before .before .before .before .before .before .before .before in
+    let at-wide2 = c .before .before .before .before .before .before .before .before .before .before .before .before .before .before .before .before .before .before .before in
+    let at-wide = c .before .before .before .before .before .before .before .before .before .before .before .before .before .before .before .before .before .before .before .before .before in
+    let s = c .before .before .before .before .before .before .before .before .before .before .before .before .before .before .before .before .before .before .before .before .before .before .before .before .before .before in
+    let words = s .args .words .now in
+    let a = s .pre .0 in
+    let w = at-put-clauses .put-clauses .ensures (clauses-to-come words a (at-wide .wide .result) (at-wide2 .wide2 .result) (at-wide3 .wide3 .result) (at-wide .wide .ensures .0) (at-wide2 .wide2 .ensures .0) (at-wide3 .wide3 .ensures .0)) in
+    (goal-to-come words a (at-wide .wide .result) (at-wide2 .wide2 .result) (at-wide3 .wide3 .result) (at-wide .wide .ensures .0) (at-wide2 .wide2 .ensures .0) (at-wide3 .wide3 .ensures .0) (at-put-clauses .put-clauses .result .at) (w .to-come), named-parts words a (at-wide .wide .result) (at-wide2 .wide2 .result) (at-wide3 .wide3 .result) (at-wide .wide .ensures .0) (at-wide2 .wide2 .ensures .0) (at-wide3 .wide3 .ensures .0) (s .args .names .now) (s .pre .1), words-short words a)
 
 same-length : tie.Need-same-length
 same-length c = search needs
 
 returns : tie.Need-returns
 returns c =
-    let words = c .before .before .before .before .before .before .before .before .before .before .before .before .before .before .before .before .before .before .before .before .before .before .before .before .before .before .before .before .before .args .words .now in
-    let a = c .before .before .before .before .before .before .before .before .before .before .before .before .before .before .before .before .before .before .before .before .before .before .before .before .before .before .before .before .before .pre .0 in
-    let w = c .before .before .before .before .before .before .put-clauses .ensures (clauses-to-come words a (c .before .before .before .before .before .before .before .before .before .before .before .before .before .before .before .before .before .before .before .before .before .before .before .before .wide .result) (c .before .before .before .before .before .before .before .before .before .before .before .before .before .before .before .before .before .before .before .before .before .before .wide2 .result) (c .before .before .before .before .before .before .before .before .before .before .before .before .before .before .before .before .before .before .before .before .wide3 .result) (c .before .before .before .before .before .before .before .before .before .before .before .before .before .before .before .before .before .before .before .before .before .before .before .before .wide .ensures .0) (c .before .before .before .before .before .before .before .before .before .before .before .before .before .before .before .before .before .before .before .before .before .before .wide2 .ensures .0) (c .before .before .before .before .before .before .before .before .before .before .before .before .before .before .before .before .before .before .before .before .wide3 .ensures .0)) in
-    let q = c .before .before .put-query .ensures (goal-to-come words a (c .before .before .before .before .before .before .before .before .before .before .before .before .before .before .before .before .before .before .before .before .before .before .before .before .wide .result) (c .before .before .before .before .before .before .before .before .before .before .before .before .before .before .before .before .before .before .before .before .before .before .wide2 .result) (c .before .before .before .before .before .before .before .before .before .before .before .before .before .before .before .before .before .before .before .before .wide3 .result) (c .before .before .before .before .before .before .before .before .before .before .before .before .before .before .before .before .before .before .before .before .before .before .before .before .wide .ensures .0) (c .before .before .before .before .before .before .before .before .before .before .before .before .before .before .before .before .before .before .before .before .before .before .wide2 .ensures .0) (c .before .before .before .before .before .before .before .before .before .before .before .before .before .before .before .before .before .before .before .before .wide3 .ensures .0) (c .before .before .before .before .before .before .put-clauses .result .at) (w .to-come)) in
-    subst (λ (t : List ℕ). Put t (c .before .before .before .before .before .before .before .before .before .before .before .before .before .before .before .before .before .before .before .before .before .before .before .before .before .before .before .before .before .args .text .now) (c .before .before .put-query .last .0) 0 (c .before .before .put-query .result))
-    (text-said words a (c .before .before .before .before .before .before .before .before .before .before .before .before .before .before .before .before .before .before .before .before .before .before .before .before .wide .result) (c .before .before .before .before .before .before .before .before .before .before .before .before .before .before .before .before .before .before .before .before .before .before .wide2 .result) (c .before .before .before .before .before .before .before .before .before .before .before .before .before .before .before .before .before .before .before .before .wide3 .result) (c .before .before .before .before .before .before .before .before .before .before .before .before .before .before .before .before .before .before .before .before .before .before .before .before .wide .ensures .0) (c .before .before .before .before .before .before .before .before .before .before .before .before .before .before .before .before .before .before .before .before .before .before .wide2 .ensures .0) (c .before .before .before .before .before .before .before .before .before .before .before .before .before .before .before .before .before .before .before .before .wide3 .ensures .0) (c .before .before .before .before .before .before .before .before .before .before .before .before .before .before .before .before .before .before .before .before .before .before .before .before .before .before .before .before .before .args .names .now))
+    let at-put-query = c .before .before in
+    let at-put-clauses = c .before .before .before .before .before .before in
+    let at-wide3 = c .before .before .before .before .before .before .before .before .before .before .before .before .before .before .before .before .before .before .before .before in
+    let at-wide2 = c .before .before .before .before .before .before .before .before .before .before .before .before .before .before .before .before .before .before .before .before .before .before in
+    let at-wide = c .before .before .before .before .before .before .before .before .before .before .before .before .before .before .before .before .before .before .before .before .before .before .before .before in
+    let s = c .before .before .before .before .before .before .before .before .before .before .before .before .before .before .before .before .before .before .before .before .before .before .before .before .before .before .before .before .before in
+    let words = s .args .words .now in
+    let a = s .pre .0 in
+    let w = at-put-clauses .put-clauses .ensures (clauses-to-come words a (at-wide .wide .result) (at-wide2 .wide2 .result) (at-wide3 .wide3 .result) (at-wide .wide .ensures .0) (at-wide2 .wide2 .ensures .0) (at-wide3 .wide3 .ensures .0)) in
+    let q = at-put-query .put-query .ensures (goal-to-come words a (at-wide .wide .result) (at-wide2 .wide2 .result) (at-wide3 .wide3 .result) (at-wide .wide .ensures .0) (at-wide2 .wide2 .ensures .0) (at-wide3 .wide3 .ensures .0) (at-put-clauses .put-clauses .result .at) (w .to-come)) in
+    subst (λ (t : List ℕ). Put t (s .args .text .now) (at-put-query .put-query .last .0) 0 (at-put-query .put-query .result))
+    (text-said words a (at-wide .wide .result) (at-wide2 .wide2 .result) (at-wide3 .wide3 .result) (at-wide .wide .ensures .0) (at-wide2 .wide2 .ensures .0) (at-wide3 .wide3 .ensures .0) (s .args .names .now))
     (put-append (put-append (put-append (c .before .before .before .before .before .before .before .before .before .before .before .before .before .before .before .put-declarations .ensures) (c .before .before .before .before .before .before .before .before .before .before .put-declarations2 .ensures)) (w .put)) q)
 
 pub put-text-spec : {M : Type 1} → statement M

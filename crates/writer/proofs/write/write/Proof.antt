@@ -25,27 +25,34 @@ same-length c = search needs
 
 returns : tie.Need-returns
 returns c =
+    let at-scan = c .before .before .before .before .before .before in
     let s = c .before .before .before .before .before .before .before .before .before .before .args in
-    let r = words-refused (s .words .now) (c .before .before .before .before .before .before .scan .result) (c .before .before .before .before .before .before .scan .ensures) (s .names .now) (length (s .text .now)) (c .before .before .before .before .if1 .taken) in
+    let r = words-refused (s .words .now) (at-scan .scan .result) (at-scan .scan .ensures) (s .names .now) (length (s .text .now)) (c .before .before .before .before .if1 .taken) in
     (r .0, c .before .before .clear .ensures ∙ r .1)
 
 shared-slice-read-wide : tie.Need-shared-slice-read-wide
-shared-slice-read-wide c = omega (arith, first-three _ (words-accepted (c .before .before .before .before .before .before .before .args .words .now) (c .before .before .before .scan .result) (c .before .before .before .scan .ensures) (c .before .if1 .left)))
+shared-slice-read-wide c =
+    let at-scan = c .before .before .before in
+    omega (arith, first-three _ (words-accepted (c .before .before .before .before .before .before .before .args .words .now) (at-scan .scan .result) (at-scan .scan .ensures) (c .before .if1 .left)))
 
 wide-requires : tie.Need-wide-requires
 wide-requires c κs = search needs
 
 shared-slice-read-wide-2 : tie.Need-shared-slice-read-wide-2
-shared-slice-read-wide-2 c = omega (arith, first-three _ (words-accepted (c .before .before .before .before .before .before .before .before .before .args .words .now) (c .before .before .before .before .before .scan .result) (c .before .before .before .before .before .scan .ensures) (c .before .before .before .if1 .left)))
+shared-slice-read-wide-2 c =
+    let at-scan = c .before .before .before .before .before in
+    omega (arith, first-three _ (words-accepted (c .before .before .before .before .before .before .before .before .before .args .words .now) (at-scan .scan .result) (at-scan .scan .ensures) (c .before .before .before .if1 .left)))
 
 wide-requires-2 : tie.Need-wide-requires-2
 wide-requires-2 c κs = search needs
 
 names-reply-requires : tie.Need-names-reply-requires
 names-reply-requires c κs =
-    let words = c .before .before .before .before .before .before .before .before .before .before .args .words .now in
-    let names = c .before .before .before .before .before .before .before .before .before .before .args .names .now in
-    let a = words-accepted words (c .before .before .before .before .before .before .scan .result) (c .before .before .before .before .before .before .scan .ensures) (c .before .before .before .before .if1 .left) in
+    let at-scan = c .before .before .before .before .before .before in
+    let s = c .before .before .before .before .before .before .before .before .before .before in
+    let words = s .args .words .now in
+    let names = s .args .names .now in
+    let a = words-accepted words (at-scan .scan .result) (at-scan .scan .ensures) (c .before .before .before .before .if1 .left) in
     let p = c .before .before .wide .ensures .0 ∙ predicate-count words a in
     let f = c .wide2 .ensures .0 ∙ function-count words a in
     let w = said-within words a in
@@ -59,20 +66,25 @@ same-length-2 c = search needs
 
 returns-2 : tie.Need-returns-2
 returns-2 c =
-    let words = c .before .before .before .before .before .before .before .before .before .before .before .before .before .before .before .before .before .args .words .now in
-    let names = c .before .before .before .before .before .before .before .before .before .before .before .before .before .before .before .before .before .args .names .now in
-    let a = words-accepted words (c .before .before .before .before .before .before .before .before .before .before .before .before .before .scan .result) (c .before .before .before .before .before .before .before .before .before .before .before .before .before .scan .ensures) (c .before .before .before .before .before .before .before .before .before .before .before .if1 .left) in
+    let at-names-reply = c .before .before .before .before .before .before in
+    let at-scan = c .before .before .before .before .before .before .before .before .before .before .before .before .before in
+    let s = c .before .before .before .before .before .before .before .before .before .before .before .before .before .before .before .before .before in
+    let words = s .args .words .now in
+    let names = s .args .names .now in
+    let a = words-accepted words (at-scan .scan .result) (at-scan .scan .ensures) (c .before .before .before .before .before .before .before .before .before .before .before .if1 .left) in
     let p = c .before .before .before .before .before .before .before .before .before .wide .ensures .0 ∙ predicate-count words a in
     let f = c .before .before .before .before .before .before .before .wide2 .ensures .0 ∙ function-count words a in
-    let named = c .before .before .before .before .before .before .names-reply .ensures ∙ ap₂ (λ (x y : ℕ). namesReply (namesOf names x (x + y))) p f in
-    let r = names-refused words names (length (c .before .before .before .before .before .before .before .before .before .before .before .before .before .before .before .before .before .args .text .now)) (said words) (said-sound words a) (c .before .before .before .before .before .before .names-reply .result) named (c .before .before .before .before .if2 .taken) in
+    let named = at-names-reply .names-reply .ensures ∙ ap₂ (λ (x y : ℕ). namesReply (namesOf names x (x + y))) p f in
+    let r = names-refused words names (length (s .args .text .now)) (said words) (said-sound words a) (at-names-reply .names-reply .result) named (c .before .before .before .before .if2 .taken) in
     (r .0, c .before .before .clear2 .ensures ∙ r .1)
 
 put-text-requires : tie.Need-put-text-requires
 put-text-requires c κs =
-    let words = c .before .before .before .before .before .before .before .before .before .before .before .before .before .before .args .words .now in
-    let names = c .before .before .before .before .before .before .before .before .before .before .before .before .before .before .args .names .now in
-    let a = words-accepted words (c .before .before .before .before .before .before .before .before .before .before .scan .result) (c .before .before .before .before .before .before .before .before .before .before .scan .ensures) (c .before .before .before .before .before .before .before .before .if1 .left) in
+    let at-scan = c .before .before .before .before .before .before .before .before .before .before in
+    let s = c .before .before .before .before .before .before .before .before .before .before .before .before .before .before in
+    let words = s .args .words .now in
+    let names = s .args .names .now in
+    let a = words-accepted words (at-scan .scan .result) (at-scan .scan .ensures) (c .before .before .before .before .before .before .before .before .if1 .left) in
     let p = c .before .before .before .before .before .before .wide .ensures .0 ∙ predicate-count words a in
     let f = c .before .before .before .before .wide2 .ensures .0 ∙ function-count words a in
     let named = c .before .before .before .names-reply .ensures ∙ ap₂ (λ (x y : ℕ). namesReply (namesOf names x (x + y))) p f in
@@ -88,15 +100,20 @@ same-length-3 c = search needs
 
 returns-3 : tie.Need-returns-3
 returns-3 c =
-    let words = c .before .before .before .before .before .before .before .before .before .before .before .before .before .before .before .before .before .before .before .before .before .args .words .now in
-    let names = c .before .before .before .before .before .before .before .before .before .before .before .before .before .before .before .before .before .before .before .before .before .args .names .now in
-    let a = words-accepted words (c .before .before .before .before .before .before .before .before .before .before .before .before .before .before .before .before .before .scan .result) (c .before .before .before .before .before .before .before .before .before .before .before .before .before .before .before .before .before .scan .ensures) (c .before .before .before .before .before .before .before .before .before .before .before .before .before .before .before .if1 .left) in
+    let at-finish = c .before .before in
+    let at-put-text = c .before .before .before .before .before .before in
+    let at-names-reply = c .before .before .before .before .before .before .before .before .before .before in
+    let at-scan = c .before .before .before .before .before .before .before .before .before .before .before .before .before .before .before .before .before in
+    let s = c .before .before .before .before .before .before .before .before .before .before .before .before .before .before .before .before .before .before .before .before .before in
+    let words = s .args .words .now in
+    let names = s .args .names .now in
+    let a = words-accepted words (at-scan .scan .result) (at-scan .scan .ensures) (c .before .before .before .before .before .before .before .before .before .before .before .before .before .before .before .if1 .left) in
     let p = c .before .before .before .before .before .before .before .before .before .before .before .before .before .wide .ensures .0 ∙ predicate-count words a in
     let f = c .before .before .before .before .before .before .before .before .before .before .before .wide2 .ensures .0 ∙ function-count words a in
-    let named = c .before .before .before .before .before .before .before .before .before .before .names-reply .ensures ∙ ap₂ (λ (x y : ℕ). namesReply (namesOf names x (x + y))) p f in
-    let room = length (c .before .before .before .before .before .before .before .before .before .before .before .before .before .before .before .before .before .before .before .before .before .args .text .now) in
-    let e = room-decides (c .before .before .before .before .before .before .put-text .ensures) ∙ sym (text-answered words names room (said words) (said-sound words a) (c .before .before .before .before .before .before .before .before .before .before .names-reply .result) named (c .before .before .before .before .before .before .before .before .if2 .left)) in
-    (c .before .before .finish .ensures .0 ∙ ap replyOf e, c .before .before .finish .ensures .1 ∙ ap₂ textIn (put-length (c .before .before .before .before .before .before .put-text .ensures)) e)
+    let named = at-names-reply .names-reply .ensures ∙ ap₂ (λ (x y : ℕ). namesReply (namesOf names x (x + y))) p f in
+    let room = length (s .args .text .now) in
+    let e = room-decides (at-put-text .put-text .ensures) ∙ sym (text-answered words names room (said words) (said-sound words a) (at-names-reply .names-reply .result) named (c .before .before .before .before .before .before .before .before .if2 .left)) in
+    (at-finish .finish .ensures .0 ∙ ap replyOf e, at-finish .finish .ensures .1 ∙ ap₂ textIn (put-length (at-put-text .put-text .ensures)) e)
 
 pub write-spec : {M : Type 1} → statement M
 write-spec =
