@@ -3,7 +3,7 @@ pub mod ListedOnce
 pub mod Samples
 pub mod LetterLaws
 pub mod RowLaws
-pub mod CellLaws
+pub mod ShapeCells
 pub mod Tails
 pub mod LineLaws
 pub mod Replies

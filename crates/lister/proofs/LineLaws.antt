@@ -116,11 +116,10 @@ abbrev pub next-row : {dir table : List ℕ} {rows : ℕ} (w : Tabled dir table 
 next-row w r l = nth-at (w .entries) r (omega (arith, w .many))
 
 -- and the shape
-abbrev pub next-shape : {dir names : List ℕ} {predicates : ℕ} (w : Spoken dir names predicates) (s count : ℕ) → count ≡ getD dir shapeCount 0 → s < count
-    → ShapeAsked dir names predicates s
-next-shape {dir} w s count e l =
-    let (S, h) = shape-under (w .words) (w .p) (w .setting .accepted) dir (w .setting .directory) s (rw e at l) in
+abbrev pub next-shape : {words dir names : List ℕ} (w : Spoken words dir names) (s count : ℕ) → count ≡ getD dir shapeCount 0 → s < count → ShapeAsked words dir names s
+next-shape {words} {dir} w s count e l =
+    let (S, h) = shape-under words (w .p) (w .setting .accepted) dir (w .setting .directory) s (rw e at l) in
     record { spoken = w; S = S; nth-shape = h }
 
-abbrev pub spoken-of : {dir names table : List ℕ} {predicates rows : ℕ} → ListingAsked dir names table predicates rows → Spoken dir names predicates
-spoken-of w = record { words = w .tabled .words; p = w .tabled .p; setting = w .tabled .setting; named = w .named; many = w .predicates-are }
+abbrev pub spoken-of : {words dir names table : List ℕ} {rows : ℕ} → ListingAsked words dir names table rows → Spoken words dir names
+spoken-of w = record { p = w .tabled .p; setting = rw (w .words-are) at (w .tabled .setting); named = w .named }

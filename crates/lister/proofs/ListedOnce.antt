@@ -1,7 +1,5 @@
 -- The promise of the lister: no second reply, table or listing meets it, and for every input and every room some do.
-use Prim.Native.Nat.{ℕ, zero, suc, _*_, _≤_, _<_}
-use mathlib.Core.Bool.{Bool, true, false, cond}
-use lib.Dec.{ltb}
+use Prim.Native.Nat.{ℕ, _≤_, _<_}
 use native.Mathlib.Omega.{arith}
 use native.Mathlib.Decide.{decLe}
 use mathlib.Core.Path.{_≡_, refl, sym, ap, _∙_}
@@ -9,14 +7,14 @@ use mathlib.Core.List.{List}
 use lib.ListN.{length, replicate}
 use Rattle.program.specs.Program.{Program}
 use Rattle.program.specs.Faults.{Found, fault, sound, faults}
-use Rattle.program.specs.Reply.{accepted, tooSoon, follows, noRoom, badName, refused, done}
+use Rattle.program.specs.Reply.{accepted, noRoom, refused, done}
 use Rattle.program.specs.declared.reply.Reply.{Reply}
-use Rattle.table.specs.Table.{Entry, TableOf, Promise, faulty as promise-faulty, listed as promise-listed, full, unmarked}
+use Rattle.table.specs.Table.{Entry, Promise, faulty as promise-faulty, listed as promise-listed, full, unmarked}
 use Rattle.table.proofs.Promise.{fault-or-sound, sound-same, table-once, promise-unique, neither-never}
 use Rattle.table.proofs.PromiseMet.{promise-met}
-use Rattle.text.specs.Name.{nameBytes}
 use Rattle.text.specs.Room.{inRoom}
-use Rattle.writer.specs.Names.{isSound, eachName, namesOf}
+use Rattle.writer.specs.Names.{namesReply}
+use Rattle.writer.proofs.Answers.{names-right}
 use Rattle.reader.specs.Table.{Read, wrong, right}
 use Rattle.lister.specs.Listing.{listingOf}
 use Rattle.lister.specs.Listed.{namesFor, Refused, Rows, Listed, faulty, misnamed, unlisted, over, listed}
@@ -27,25 +25,8 @@ refused-once : {size room number place : ℕ} {r r′ : Reply} {t t′ o o′ : 
 refused-once a b = (a .reply-is ∙ sym (b .reply-is), a .table-zero ∙ sym (b .table-zero), a .out-zero ∙ sym (b .out-zero))
 
 -- names are sound or not
-pub wrong-or-right : {A : Type 0} {number place : ℕ} {a : A} (x : Read A) → x ≡ wrong number place → x ≡ right a → ⊥
+wrong-or-right : {A : Type 0} {number place : ℕ} {a : A} (x : Read A) → x ≡ wrong number place → x ≡ right a → ⊥
 wrong-or-right x d e = let z : _≡_ {A = ℕ} 0 1 = cc in omega arith
-
--- what is right of the names are the names
-each-kept : (names : List ℕ) {ns : List ℕ} (predicates i n : ℕ) → eachName names predicates i n ≡ right ns → ns ≡ names
-each-kept names predicates i zero e = cc
-each-kept names {ns} predicates i (suc n) e = at (isSound names predicates i) (each-kept names predicates (suc i) n) e
-  where
-    at : {x : Read (List ℕ)} (b : Bool) → (x ≡ right ns → ns ≡ names) → cond b x (wrong badName (i * nameBytes)) ≡ right ns → ns ≡ names
-    at true next e = next e
-    at false next e = absurd (wrong-or-right _ refl e)
-
-pub names-kept : (names : List ℕ) {ns : List ℕ} (predicates symbols : ℕ) → namesOf names predicates symbols ≡ right ns → ns ≡ names
-names-kept names {ns} predicates symbols e = at (ltb (length names) (symbols * nameBytes)) (ltb (symbols * nameBytes) (length names)) e
-  where
-    at : (a b : Bool) → cond a (wrong tooSoon (length names)) (cond b (wrong follows (symbols * nameBytes)) (eachName names predicates 0 symbols)) ≡ right ns → ns ≡ names
-    at true b e = absurd (wrong-or-right _ refl e)
-    at false true e = absurd (wrong-or-right _ refl e)
-    at false false e = each-kept names predicates 0 symbols e
 
 module _ (words names : List ℕ) (size room : ℕ) where
   named-once : {p p′ : Program} {number place : ℕ} → faults words ≡ sound p → faults words ≡ sound p′ → namesFor p names ≡ wrong number place → namesFor p′ names ≡ right names → ⊥
@@ -129,7 +110,7 @@ module _ (words names : List ℕ) (size room : ℕ) where
 
       named : (p : Program) → faults words ≡ sound p → (x : Read (List ℕ)) → namesFor p names ≡ x → Met
       named p f (wrong number place) w = (_, _, _, misnamed p number place f w (zeros number place))
-      named p f (right ns) w = let (r, t, a) = promise-met words size in analysed p f (w ∙ ap right (names-kept names _ _ w)) r t a
+      named p f (right ns) w = let (r, t, a) = promise-met words size in analysed p f (names-right names _ _ (ap (λ x. namesReply x .number) w)) r t a
 
       found : (f : Found) → faults words ≡ f → Met
       found (fault number place) f = (_, _, _, faulty number place f (zeros number place))

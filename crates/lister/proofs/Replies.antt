@@ -1,14 +1,12 @@
 -- The replies of the lister: what the scan's, the names' and the analysis' replies say of the words, the names and the table.
-use Prim.Native.Nat.{ℕ, zero, suc, _+_, _-_, _*_, _≤_, _<_}
+use Prim.Native.Nat.{ℕ, _+_, _-_, _*_, _≤_, _<_}
 use native.Mathlib.Omega.{arith}
 use mathlib.Core.Path.{_≡_, refl, sym, ap, _∙_, subst}
-use mathlib.Core.Bool.{Bool, true, false, cond}
 use mathlib.Core.List.{List, _++_, List·Memᴰ}
 use lib.ListN.{length, getD, replicate}
-use lib.Dec.{ltb}
 use Rattle.program.specs.Program.{Program}
 use Rattle.program.specs.Faults.{Found, fault, sound, faults, replyOf}
-use Rattle.program.specs.Reply.{accepted, tooSoon, follows, noRoom, badName, refused, done}
+use Rattle.program.specs.Reply.{accepted, noRoom, refused, done}
 use Rattle.program.specs.declared.reply.Reply.{Reply}
 use Rattle.program.proofs.ProgramWords.{sound-within}
 use Rattle.directory.proofs.AcceptedWords.{said-is, first-three, predicate-count, function-count}
@@ -18,12 +16,12 @@ use Rattle.table.specs.Keys.{Regular}
 use Rattle.table.proofs.FaultNumbers.{fault-number}
 use Rattle.table.proofs.Promise.{fault-or-sound, sound-same, table-once, neither-never, accepted-listed, refused-zeros}
 use Rattle.table.proofs.Regular.{at-regular}
-use Rattle.text.specs.Name.{nameBytes, maxNames}
+use Rattle.text.specs.Name.{maxNames}
 use Rattle.reader.specs.Table.{Read, wrong, right}
-use Rattle.writer.specs.Names.{isSound, eachName, namesOf, namesReply}
+use Rattle.writer.specs.Names.{namesOf, namesReply}
+use Rattle.writer.proofs.Answers.{names-right}
 use Rattle.lister.specs.Listed.{namesFor, Rows}
 use Rattle.lister.specs.Asked.{ListingAsked, ListAsked}
-use Rattle.lister.proofs.ListedOnce.{names-kept}
 
 -- the scan's reply
 module _ (words : List ℕ) (r : Reply) (is : r ≡ replyOf (faults words)) where
@@ -61,23 +59,6 @@ module _ (words : List ℕ) (p : Program) (e : faults words ≡ sound p) where
   pub names-replied : (names : List ℕ) (r : Reply) (a b : ℕ) → a ≡ getD words 0 0 → b ≡ getD words 1 0 → r ≡ namesReply (namesOf names a (a + b)) → r ≡ namesReply (namesFor p names)
   names-replied names r a b a-is b-is is = rw (a-is ∙ predicates-counted, b-is ∙ functions-counted) at is
 
--- a fault of the names has a number of its own
-each-number : (names : List ℕ) (predicates i n : ℕ) {number place : ℕ} → eachName names predicates i n ≡ wrong number place → 0 < number
-each-number names predicates i zero e = absurd (let z : _≡_ {A = ℕ} 0 1 = cc in omega arith)
-each-number names predicates i (suc n) {number} {place} e = at (isSound names predicates i) (λ f. each-number names predicates (suc i) n f) e
-  where
-    at : {x : Read (List ℕ)} (b : Bool) → (x ≡ wrong number place → 0 < number) → cond b x (wrong badName (i * nameBytes)) ≡ wrong number place → 0 < number
-    at true next e = next e
-    at false next e = let n : badName ≡ number = cc in omega arith
-
-names-number : (names : List ℕ) (predicates symbols : ℕ) {number place : ℕ} → namesOf names predicates symbols ≡ wrong number place → 0 < number
-names-number names predicates symbols {number} {place} e = at (ltb (length names) (symbols * nameBytes)) (ltb (symbols * nameBytes) (length names)) e
-  where
-    at : (a b : Bool) → cond a (wrong tooSoon (length names)) (cond b (wrong follows (symbols * nameBytes)) (eachName names predicates 0 symbols)) ≡ wrong number place → 0 < number
-    at true b e = let n : tooSoon ≡ number = cc in omega arith
-    at false true e = let n : follows ≡ number = cc in omega arith
-    at false false e = each-number names predicates 0 symbols e
-
 -- the names' reply
 module _ (p : Program) (names : List ℕ) (r : Reply) (is : r ≡ namesReply (namesFor p names)) where
   pub names-faulty : (r .number ≡ accepted → ⊥) → namesFor p names ≡ wrong (r .number) (r .place)
@@ -88,13 +69,7 @@ module _ (p : Program) (names : List ℕ) (r : Reply) (is : r ≡ namesReply (na
       at (right ns) e = absurd (d (ap (λ (x : Reply). x .number) (is ∙ ap namesReply e)))
 
   pub names-sound : r .number ≡ accepted → namesFor p names ≡ right names
-  names-sound z = at (namesFor p names) refl
-    where
-      at : (x : Read (List ℕ)) → namesFor p names ≡ x → namesFor p names ≡ right names
-      at (right ns) e = e ∙ ap right (names-kept names _ _ e)
-      at (wrong number place) e =
-          let n : r .number ≡ number = ap (λ (x : Reply). x .number) (is ∙ ap namesReply e) in
-          absurd (omega (arith, names-number names _ _ e))
+  names-sound z = names-right names _ _ (sym (ap (λ (x : Reply). x .number) is) ∙ z)
 
 -- the analysis' reply
 module _ (words names : List ℕ) (p : Program) (e : faults words ≡ sound p) (n : namesFor p names ≡ right names) (size : ℕ) (r : Reply) (table : List ℕ) (a : Promise words size r table) where
@@ -129,9 +104,8 @@ module _ {words names : List ℕ} {size : ℕ} {table : List ℕ} {p : Program} 
   rows-regular e m = at-regular words p (w .program) (e .round) (e .row) (w .rows .only e m .0)
 
 -- all that the listing is of
-abbrev pub listing-asked : {words names table dir : List ℕ} {rows : ℕ} (w : ListAsked words names table rows) (predicates : ℕ) → predicates ≡ getD words 0 0
-    → Directory words (w .p) dir → ListingAsked dir names table predicates rows
-listing-asked {words} w predicates e d =
+abbrev pub listing-asked : {words names table dir : List ℕ} {rows : ℕ} (w : ListAsked words names table rows) → Directory words (w .p) dir → ListingAsked words dir names table rows
+listing-asked {words} w d =
     record {
       tabled = record {
         words = words;
@@ -143,6 +117,6 @@ listing-asked {words} w predicates e d =
         many = w .many;
         table-is = rows-words (w .filled);
       };
+      words-are = refl;
       named = w .filled .named;
-      predicates-are = e ∙ predicates-counted words (w .p) (w .filled .program);
     }

@@ -1,7 +1,7 @@
 -- A row by its words: its clause and place, or its shape, exist; the line of its words is the row's line.
 use Prim.Native.Nat.{ℕ, suc, _+_, _-_, _*_, _≤_, _<_}
 use native.Mathlib.Omega.{arith}
-use mathlib.Core.Path.{_≡_, refl, sym, ap, _∙_, subst}
+use mathlib.Core.Path.{_≡_, sym, ap, _∙_}
 use mathlib.Core.Logic.{_↔_, Iff·rfl}
 use mathlib.Core.List.{List, [], _∷_, _++_, append-assoc, append-nil}
 use lib.ListN.{length, getD}
@@ -18,7 +18,6 @@ use Rattle.directory.proofs.Cuts.{nth-within}
 use Rattle.table.specs.Rules.{Row, call, cont, solution}
 use Rattle.table.specs.Table.{rowSize, rowWords}
 use Rattle.table.specs.Keys.{Regular, regular-call, regular-cont, regular-solution}
-use Rattle.steps.specs.Situation.{Setting}
 use Rattle.steps.proofs.Meetings.{setting-within}
 use Rattle.text.specs.Decimal.{decimal}
 use Rattle.text.specs.Line.{tab, lineFeed}

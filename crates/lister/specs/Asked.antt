@@ -13,12 +13,10 @@ use Rattle.reader.specs.Table.{right}
 use Rattle.lister.specs.Listed.{namesFor, Rows}
 
 -- an accepted program with its directory and its names
-pub record Spoken (dir names : List ℕ) (predicates : ℕ) : Type 0 where
-  pub words : List ℕ
+pub record Spoken (words dir names : List ℕ) : Type 0 where
   pub p : Program
   pub setting : Setting words dir p
   pub named : namesFor p names ≡ right names
-  pub many : predicates ≡ length (p .predicates)
 
 -- the rows of such a program in the table
 pub record Tabled (dir table : List ℕ) (rows : ℕ) : Type 0 where
@@ -32,16 +30,16 @@ pub record Tabled (dir table : List ℕ) (rows : ℕ) : Type 0 where
   pub table-is : table ≡ tableWords entries ++ rest
 
 -- shape number s of such a program
-pub record ShapeAsked (dir names : List ℕ) (predicates s : ℕ) : Type 0 where
-  pub spoken : Spoken dir names predicates
+pub record ShapeAsked (words dir names : List ℕ) (s : ℕ) : Type 0 where
+  pub spoken : Spoken words dir names
   pub S : Term
   pub nth-shape : Nth (shapes (spoken .p)) s S
 
 -- all that the listing is of
-pub record ListingAsked (dir names table : List ℕ) (predicates rows : ℕ) : Type 0 where
+pub record ListingAsked (words dir names table : List ℕ) (rows : ℕ) : Type 0 where
   pub tabled : Tabled dir table rows
+  pub words-are : tabled .words ≡ words
   pub named : namesFor (tabled .p) names ≡ right names
-  pub predicates-are : predicates ≡ length (tabled .p .predicates)
 
 -- the table is filled with so many rows, and the listing is still to come
 pub record ListAsked (words names table : List ℕ) (rows : ℕ) : Type 0 where

@@ -1,12 +1,11 @@
 -- The parts of a row's line by the row's words, and what the functions that write one line are asked. For the code alone: readers go by `Listing`.
-use Prim.Native.Nat.{ℕ, _+_, _-_, _*_, _≤_, _<_}
+use Prim.Native.Nat.{ℕ, _+_, _-_, _*_, _<_}
 use mathlib.Core.Path.{_≡_}
 use mathlib.Core.Bool.{cond}
 use mathlib.Core.List.{List, [], _∷_, _++_}
 use lib.ListN.{length, getD}
 use lib.Dec.{eqb}
 use Rattle.terms.specs.Term.{Occ}
-use Rattle.terms.specs.Cells.{firstVariable}
 use Rattle.program.specs.Program.{Program}
 use Rattle.program.specs.Shapes.{Listed}
 use Rattle.table.specs.Rules.{Row, call, cont, solution}
@@ -14,7 +13,6 @@ use Rattle.table.specs.Table.{rowSize, rowWords}
 use Rattle.table.specs.Keys.{Regular}
 use Rattle.steps.specs.Situation.{Setting}
 use Rattle.text.specs.Decimal.{decimal}
-use Rattle.text.specs.Name.{nameBytes, maxNames}
 use Rattle.lister.specs.Listing.{callWord, contWord, solWord, dot, shapeAt, clauseAt}
 
 -- "kind (1 call, 2 cont, 3 solution)"
@@ -54,19 +52,3 @@ pub record RowIn (dir table : List ℕ) (r : ℕ) : Type 0 where
   pub row-is :
       rowWords row
       ≡ getD table (rowSize * r + 1) 0 ∷ getD table (rowSize * r + 2) 0 ∷ getD table (rowSize * r + 3) 0 ∷ getD table (rowSize * r + 4) 0 ∷ []
-
--- name number n is among the names
-abbrev pub NameIn : List ℕ → ℕ → Type 0
-NameIn names n = (n < maxNames) × (n * nameBytes + nameBytes ≤ length names)
-
--- an argument's cell is a variable's, or its name is there
-abbrev pub ArgumentIn : List ℕ → ℕ → ℕ → Type 0
-ArgumentIn names predicates w = w < firstVariable → NameIn names (predicates + w)
-
-abbrev pub ArgumentsIn : List ℕ → ℕ → List ℕ → Type 0
-ArgumentsIn names predicates cells = (i : ℕ) → i < length cells → ArgumentIn names predicates (getD cells i 0)
-
--- the names of an atom's cells are there
-abbrev pub CellsIn : List ℕ → ℕ → List ℕ → Type 0
-CellsIn names predicates [] = ⊥
-CellsIn names predicates (w ∷ ws) = NameIn names w × ArgumentsIn names predicates ws

@@ -34,8 +34,7 @@ fn listed(words: &[u16], names: &[u8], rows: usize, table: &mut [u16], out: &mut
 {
     let mut dir = [0u16; 9550];
     directory(words, &mut dir);
-    let predicates = wide(words[0]);
-    let size = listing(&dir, names, predicates, table, rows, out);
+    let size = listing(words, &dir, names, table, rows, out);
     if out.len() < size {
         return refuse(NO_ROOM, out.len(), table, out);
     }

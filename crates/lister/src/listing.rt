@@ -34,11 +34,11 @@ fn end_line(rows: usize, out: &mut [u8]) -> usize
 }
 
 // The shape lines, each into the tail of the buffer from the current end on: the new end, or one past the room.
-fn shape_lines(dir: &[u16], names: &[u8], predicates: usize, out: &mut [u8], start: usize) -> usize
-    requires { ⌜ Spoken (now dir) (now names) predicates ⌝ }
+fn shape_lines(words: &[u16], dir: &[u16], names: &[u8], out: &mut [u8], start: usize) -> usize
+    requires { ⌜ Spoken (now words) (now dir) (now names) ⌝ }
     requires { ⌜ start ≤ suc (length (now out)) ⌝ }
-    ensures { λ r. ⌜ ((w : Spoken (now (dir .entry)) (now (names .entry)) predicates)
-        → Put (shapeLines (now (names .entry)) predicates 0 (shapes (w .p))) (now (out .entry)) (now (out .exit)) start r) ⌝ }
+    ensures { λ r. ⌜ ((w : Spoken (now (words .entry)) (now (dir .entry)) (now (names .entry)))
+        → Put (shapeLines (now (names .entry)) (length (w .p .predicates)) 0 (shapes (w .p))) (now (out .entry)) (now (out .exit)) start r) ⌝ }
 {
     let count = wide(dir[SHAPE_COUNT]);
     let mut end = start;
@@ -47,7 +47,7 @@ fn shape_lines(dir: &[u16], names: &[u8], predicates: usize, out: &mut [u8], sta
         if out.len() < end {
             return end;
         }
-        end += shape_line(dir, names, predicates, s, &mut out[end..]);
+        end += shape_line(words, dir, names, s, &mut out[end..]);
         s += 1;
     }
     end
@@ -73,19 +73,19 @@ fn row_lines(dir: &[u16], table: &[u16], rows: usize, out: &mut [u8], start: usi
 
 // All lines: how many bytes they are, or one more than the room.
 pub fn listing(
+    words: &[u16],
     dir: &[u16],
     names: &[u8],
-    predicates: usize,
     table: &[u16],
     rows: usize,
     out: &mut [u8],
 ) -> usize
-    requires { ⌜ ListingAsked (now dir) (now names) (now table) predicates rows ⌝ }
-    ensures { λ r. ⌜ ((w : ListingAsked (now (dir .entry)) (now (names .entry)) (now (table .entry)) predicates rows)
+    requires { ⌜ ListingAsked (now words) (now dir) (now names) (now table) rows ⌝ }
+    ensures { λ r. ⌜ ((w : ListingAsked (now (words .entry)) (now (dir .entry)) (now (names .entry)) (now (table .entry)) rows)
         → Put (listingOf (w .tabled .p) (now (names .entry)) (w .tabled .entries)) (now (out .entry)) (now (out .exit)) 0 r) ⌝ }
 {
     let shapes_at = version_line(out);
-    let rows_at = shape_lines(dir, names, predicates, out, shapes_at);
+    let rows_at = shape_lines(words, dir, names, out, shapes_at);
     let end = row_lines(dir, table, rows, out, rows_at);
     if out.len() < end {
         return end;

@@ -80,7 +80,8 @@ module _ (names : List ℕ) (predicates symbols : ℕ) where
       by false true e e′ z = absurd (omega arith)
       by false false e e′ z = omega (arith, ltb-false (length names) (symbols * nameBytes) e, ltb-false (symbols * nameBytes) (length names) e′)
 
-  names-right : namesReply (namesOf names predicates symbols) .number ≡ 0 → namesOf names predicates symbols ≡ right names
+  -- and they are the names that were lent
+  pub names-right : namesReply (namesOf names predicates symbols) .number ≡ 0 → namesOf names predicates symbols ≡ right names
   names-right = by (namesOf names predicates symbols) as-lent
     where
       by : (o : Read (List ℕ)) → AsLent names o → namesReply o .number ≡ 0 → o ≡ right names

@@ -1,7 +1,7 @@
 // From an encoded program with names to scenario text.
-mod atoms;
+pub mod atoms;
 mod lines;
 pub mod names;
 mod tokens;
-mod walked;
+pub mod walked;
 pub mod write;

@@ -1,5 +1,5 @@
 -- `lister::letters::put_letters` meets its contract. The loop's invariant: the letters of the variables below v are written. Assumes nothing.
-use Prim.Native.Nat.{ℕ, _-_, _≤_}
+use Prim.Native.Nat.{_-_, _≤_}
 use native.Mathlib.Omega.{arith}
 use native.Mathlib.Numerals.{add-one}
 use mathlib.Core.Path.{_≡_}

@@ -1,13 +1,12 @@
 -- `lister::list::listed` meets its contract: the listing has room, or the refusal has zeros. Assumes nothing.
 use Prim.Native.Nat.{_≤_}
-use lib.ListN.{length}
-use Prim.Native.Nat.{ℕ}
 use native.Mathlib.Omega.{arith}
 use mathlib.Core.Path.{sym, ap, _∙_}
+use lib.ListN.{length}
 use Rattle.program.specs.Reply.{done}
 use Rattle.text.proofs.Puts.{put-length, put-count, put-roomed, put-over}
 use Rattle.lister.specs.Listed.{over, listed}
-use Rattle.lister.proofs.Replies.{words-there, listing-asked}
+use Rattle.lister.proofs.Replies.{listing-asked}
 use borrow.Author.Needs.{needs}
 use Rattle.lister.proofs.list.listed.Statement.{statement}
 use Rattle.lister.proofs.list.listed.Tie as tie
@@ -18,17 +17,11 @@ slice-aggregate-directory c = search needs
 directory-requires : tie.Need-directory-requires
 directory-requires c κs = search needs
 
-shared-slice-read-wide : tie.Need-shared-slice-read-wide
-shared-slice-read-wide c = let w = c .before .before .before .before .before .before .before .before .pre in omega (arith, words-there (c .before .before .before .before .before .before .before .before .args .words .now) (w .p) (w .filled .program))
-
-wide-requires : tie.Need-wide-requires
-wide-requires c κs = search needs
-
 slice-aggregate-listing : tie.Need-slice-aggregate-listing
 slice-aggregate-listing c = search needs
 
 listing-requires : tie.Need-listing-requires
-listing-requires c κs = let w = c .before .before .before .before .before .before .before .before .before .before .before .before .pre in listing-asked w _ (c .before .before .before .wide .ensures .0) (c .before .before .before .before .before .before .directory .ensures (w .p) (w .filled .program))
+listing-requires c κs = let w = c .before .before .before .before .before .before .before .before .before .before .pre in listing-asked w (c .before .before .before .before .directory .ensures (w .p) (w .filled .program))
 
 refuse-requires : tie.Need-refuse-requires
 refuse-requires c κs = search needs
@@ -41,8 +34,8 @@ same-length-2 c = search needs
 
 returns : tie.Need-returns
 returns c =
-    let w = c .before .before .before .before .before .before .before .before .before .before .before .before .before .before .before .before .before .before .before .before .before .before .before .pre in
-    let put = c .before .before .before .before .before .before .before .before .before .before .listing .ensures (listing-asked w _ (c .before .before .before .before .before .before .before .before .before .before .before .before .before .before .wide .ensures .0) (c .before .before .before .before .before .before .before .before .before .before .before .before .before .before .before .before .before .directory .ensures (w .p) (w .filled .program))) in
+    let w = c .before .before .before .before .before .before .before .before .before .before .before .before .before .before .before .before .before .before .before .before .before .pre in
+    let put = c .before .before .before .before .before .before .before .before .before .before .listing .ensures (listing-asked w (c .before .before .before .before .before .before .before .before .before .before .before .before .before .before .before .directory .ensures (w .p) (w .filled .program))) in
     over (w .p) (w .entries) _ (w .filled) (put-over put (omega (arith, put-length put, c .before .before .before .before .before .before .before .if1 .taken))) (rw (put-length put) at (c .before .before .before .before .refuse .ensures))
 
 clear-requires : tie.Need-clear-requires
@@ -56,9 +49,9 @@ same-length-4 c = search needs
 
 returns-2 : tie.Need-returns-2
 returns-2 c =
-    let w = c .before .before .before .before .before .before .before .before .before .before .before .before .before .before .before .before .before .before .before .before .pre in
-    let put = c .before .before .before .before .before .before .before .listing .ensures (listing-asked w _ (c .before .before .before .before .before .before .before .before .before .before .before .wide .ensures .0) (c .before .before .before .before .before .before .before .before .before .before .before .before .before .before .directory .ensures (w .p) (w .filled .program))) in
-    let fits : c .before .before .before .before .before .before .before .listing .result ≤ length (c .before .before .before .before .before .before .before .before .before .before .before .before .before .before .before .before .before .before .before .before .args .out .now) = omega (arith, put-length put, c .before .before .before .before .if1 .left) in
+    let w = c .before .before .before .before .before .before .before .before .before .before .before .before .before .before .before .before .before .before .pre in
+    let put = c .before .before .before .before .before .before .before .listing .ensures (listing-asked w (c .before .before .before .before .before .before .before .before .before .before .before .before .directory .ensures (w .p) (w .filled .program))) in
+    let fits : c .before .before .before .before .before .before .before .listing .result ≤ length (c .before .before .before .before .before .before .before .before .before .before .before .before .before .before .before .before .before .before .args .out .now) = omega (arith, put-length put, c .before .before .before .before .if1 .left) in
     listed (w .p) (w .entries) (w .filled) (omega (arith, put-count put fits, fits)) (ap done (sym (put-count put fits))) (c .before .before .clear .ensures ∙ put-roomed put fits)
 
 pub listed-spec : {M : Type 1} → statement M
@@ -67,8 +60,6 @@ listed-spec =
     (tie.spec
     slice-aggregate-directory
     directory-requires
-    shared-slice-read-wide
-    wide-requires
     slice-aggregate-listing
     listing-requires
     refuse-requires

@@ -11,19 +11,19 @@ version-line-requires : tie.Need-version-line-requires
 version-line-requires c κs = search needs
 
 shape-lines-requires : tie.Need-shape-lines-requires
-shape-lines-requires c κs = (spoken-of (c .before .before .before .before .before .before .before .before .before .pre), put-end (c .before .before .before .version-line .ensures) (omega arith))
+shape-lines-requires c κs = (spoken-of (c .before .before .before .before .before .before .before .before .before .before .pre), put-end (c .before .before .before .version-line .ensures) (omega arith))
 
 row-lines-requires : tie.Need-row-lines-requires
 row-lines-requires c κs =
     let start = put-end (c .before .before .before .before .before .before .before .version-line .ensures) (omega arith) in
-    (c .before .before .before .before .before .before .before .before .before .before .before .before .before .pre .tabled, put-end (c .before .before .before .shape-lines .ensures (spoken-of (c .before .before .before .before .before .before .before .before .before .before .before .before .before .pre))) start)
+    (c .before .before .before .before .before .before .before .before .before .before .before .before .before .before .pre .tabled, put-end (c .before .before .before .shape-lines .ensures (spoken-of (c .before .before .before .before .before .before .before .before .before .before .before .before .before .before .pre))) start)
 
 same-length : tie.Need-same-length
 same-length c = search needs
 
 returns : tie.Need-returns
 returns c = λ w.
-    rw (← w .predicates-are, ← w .tabled .many)
+    rw (← w .tabled .many)
     (put-rest _ (put-append (put-append (c .before .before .before .before .before .before .before .before .before .before .before .version-line .ensures) (c .before .before .before .before .before .before .before .shape-lines .ensures (spoken-of w))) (c .before .before .before .row-lines .ensures (w .tabled))) (omega arith) (c .if1 .taken))
 
 sub-end-line : tie.Need-sub-end-line
@@ -40,16 +40,16 @@ end-line-requires c κs = search needs
 
 add-result : tie.Need-add-result
 add-result c =
-    let w = c .before .before .before .before .before .before .before .before .before .before .before .before .before .before .before .before .before .before .before .before .before .pre in
+    let w = c .before .before .before .before .before .before .before .before .before .before .before .before .before .before .before .before .before .before .before .before .before .before .pre in
     let p = put-append (put-append (c .before .before .before .before .before .before .before .before .before .before .before .before .before .before .before .version-line .ensures) (c .before .before .before .before .before .before .before .before .before .before .before .shape-lines .ensures (spoken-of w))) (c .before .before .before .before .before .before .before .row-lines .ensures (w .tabled)) in
-    omega (arith, put-length p, c .before .before .before .before .before .before .before .before .before .before .before .before .before .before .before .before .before .before .before .before .before .good, tail-end (c .before .before .before .before .before .before .before .row-lines .last .1 .1 .1 .0) _ (c .before .before .before .before .before .before .before .row-lines .result) _ (c .before .before .before .before .if1 .left) (c .before .before .end-line .ensures))
+    omega (arith, put-length p, c .before .before .before .before .before .before .before .before .before .before .before .before .before .before .before .before .before .before .before .before .before .before .good, tail-end (c .before .before .before .before .before .before .before .row-lines .last .1 .1 .1 .0) _ (c .before .before .before .before .before .before .before .row-lines .result) _ (c .before .before .before .before .if1 .left) (c .before .before .end-line .ensures))
 
 same-length-2 : tie.Need-same-length-2
 same-length-2 c = search needs
 
 returns-2 : tie.Need-returns-2
 returns-2 c = λ w.
-    rw (← w .predicates-are, ← w .tabled .many)
+    rw (← w .tabled .many)
     (put-append (put-append (put-append (c .before .before .before .before .before .before .before .before .before .before .before .before .before .before .before .version-line .ensures) (c .before .before .before .before .before .before .before .before .before .before .before .shape-lines .ensures (spoken-of w))) (c .before .before .before .before .before .before .before .row-lines .ensures (w .tabled)))
     (tail-put (c .before .before .before .before .before .before .before .row-lines .last .1 .1 .1 .0) _ (c .before .before .before .before .before .before .before .row-lines .result) _ (c .before .before .before .before .if1 .left) (c .before .before .end-line .ensures)))
 

@@ -1,12 +1,11 @@
 -- `lister::listing::row_lines` meets its contract. The loop's invariant: the lines of the first r rows are written. Assumes nothing.
-use Prim.Native.Nat.{ℕ, _-_, _≤_}
+use Prim.Native.Nat.{_-_, _≤_}
 use native.Mathlib.Omega.{arith}
 use native.Mathlib.Numerals.{add-one}
 use mathlib.Core.Path.{subst}
 use mathlib.Core.List.{List}
 use lib.ListN.{take}
 use lib.Seq.{take-all}
-use borrow.Author.Needs.{needs}
 use Rattle.table.specs.Table.{Entry}
 use Rattle.text.specs.Put.{Put}
 use Rattle.text.proofs.Puts.{put-nothing, put-append, put-length}

@@ -1,8 +1,4 @@
 -- `lister::row_line::put_row` meets its contract: the fields are written one behind another. Assumes nothing.
-use mathlib.Core.Path.{subst}
-use mathlib.Core.List.{List}
-use Prim.Native.Nat.{ℕ}
-use Rattle.text.specs.Put.{Put}
 use Rattle.text.proofs.Puts.{put-append}
 use Rattle.lister.proofs.RowLaws.{three-fields}
 use borrow.Author.Needs.{needs}

@@ -1,5 +1,4 @@
 -- `lister::row_line::row_line` meets its contract: the line of the row's words is the row's. Assumes nothing.
-use Rattle.lister.specs.Lines.{AboutRow}
 use Rattle.lister.proofs.RowLaws.{about-row, row-line-is}
 use borrow.Author.Needs.{needs}
 use Rattle.lister.proofs.row_line.row_line.Statement.{statement}

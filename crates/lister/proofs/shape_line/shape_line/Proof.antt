@@ -2,18 +2,18 @@
 use native.Mathlib.Omega.{arith}
 use borrow.Author.Needs.{needs}
 use Rattle.text.proofs.Puts.{put-append}
-use Rattle.lister.proofs.CellLaws.{shape-few, shape-within, shape-run, shape-named}
+use Rattle.lister.proofs.ShapeCells.{shape-few, shape-from, shape-named, shape-put}
 use Rattle.lister.proofs.shape_line.shape_line.Statement.{statement}
 use Rattle.lister.proofs.shape_line.shape_line.Tie as tie
 
 add-wide : tie.Need-add-wide
-add-wide c = omega (arith, shape-few (c .before .before .before .pre))
+add-wide c = omega (arith, shape-few (c .before .before .before .before .pre))
 
 mul-wide : tie.Need-mul-wide
-mul-wide c = omega (arith, shape-few (c .before .before .before .pre))
+mul-wide c = omega (arith, shape-few (c .before .before .before .before .pre))
 
 shared-slice-read-wide : tie.Need-shared-slice-read-wide
-shared-slice-read-wide c = omega (arith, shape-few (c .before .before .before .before .pre))
+shared-slice-read-wide c = omega (arith, shape-few (c .before .before .before .before .before .pre))
 
 wide-requires : tie.Need-wide-requires
 wide-requires c κs = search needs
@@ -21,23 +21,17 @@ wide-requires c κs = search needs
 add-from : tie.Need-add-from
 add-from c = search needs
 
-add-wide-2 : tie.Need-add-wide-2
-add-wide-2 c = omega (arith, shape-few (c .before .before .before .before .before .pre))
-
-add-wide-3 : tie.Need-add-wide-3
-add-wide-3 c = omega (arith, shape-few (c .before .before .before .before .before .pre))
-
-mul-wide-2 : tie.Need-mul-wide-2
-mul-wide-2 c = omega (arith, shape-few (c .before .before .before .before .before .pre))
-
 shared-slice-read-wide-2 : tie.Need-shared-slice-read-wide-2
-shared-slice-read-wide-2 c = omega (arith, shape-few (c .before .before .before .before .before .before .pre))
+shared-slice-read-wide-2 c = search needs
 
 wide-requires-2 : tie.Need-wide-requires-2
 wide-requires-2 c κs = search needs
 
-add-to : tie.Need-add-to
-add-to c = search needs
+shared-slice-read-wide-3 : tie.Need-shared-slice-read-wide-3
+shared-slice-read-wide-3 c = search needs
+
+wide-requires-3 : tie.Need-wide-requires-3
+wide-requires-3 c κs = search needs
 
 slice-aggregate-put-bytes : tie.Need-slice-aggregate-put-bytes
 slice-aggregate-put-bytes c = search needs
@@ -48,20 +42,45 @@ put-bytes-requires c κs = search needs
 put-wide-requires : tie.Need-put-wide-requires
 put-wide-requires c κs = search needs
 
-mul-put-cells : tie.Need-mul-put-cells
-mul-put-cells c = search needs
+sub-put-atom : tie.Need-sub-put-atom
+sub-put-atom c = search needs
 
-sub-put-cells : tie.Need-sub-put-cells
-sub-put-cells c = omega (arith, shape-within (c .before .before .before .before .before .before .before .before .before .before .before .before .before .before .before .before .before .pre) _ _ (c .before .before .before .before .before .before .before .before .before .before .before .before .wide .ensures .0) (c .before .before .before .before .before .before .before .before .before .before .wide2 .ensures .0))
+part-put-atom-start : tie.Need-part-put-atom-start
+part-put-atom-start c = search needs
 
-part-put-cells-start : tie.Need-part-put-cells-start
-part-put-cells-start c = omega (arith, shape-within (c .before .before .before .before .before .before .before .before .before .before .before .before .before .before .before .before .before .pre) _ _ (c .before .before .before .before .before .before .before .before .before .before .before .before .wide .ensures .0) (c .before .before .before .before .before .before .before .before .before .before .wide2 .ensures .0))
+part-put-atom-end : tie.Need-part-put-atom-end
+part-put-atom-end c = search needs
 
-part-put-cells-end : tie.Need-part-put-cells-end
-part-put-cells-end c = shape-within (c .before .before .before .before .before .before .before .before .before .before .before .before .before .before .before .before .before .pre) _ _ (c .before .before .before .before .before .before .before .before .before .before .before .before .wide .ensures .0) (c .before .before .before .before .before .before .before .before .before .before .wide2 .ensures .0) .1
+mul-put-atom : tie.Need-mul-put-atom
+mul-put-atom c = search needs
 
-put-cells-requires : tie.Need-put-cells-requires
-put-cells-requires c κs = shape-named (c .before .before .before .before .before .before .before .before .before .before .before .before .before .before .before .before .before .before .pre) _ _ (c .before .before .before .before .before .before .before .before .before .before .before .before .before .wide .ensures .0) (c .before .before .before .before .before .before .before .before .before .before .before .wide2 .ensures .0)
+sub-put-atom-2 : tie.Need-sub-put-atom-2
+sub-put-atom-2 c = search needs
+
+part-put-atom-start-2 : tie.Need-part-put-atom-start-2
+part-put-atom-start-2 c = search needs
+
+part-put-atom-end-2 : tie.Need-part-put-atom-end-2
+part-put-atom-end-2 c = search needs
+
+mul-put-atom-2 : tie.Need-mul-put-atom-2
+mul-put-atom-2 c = search needs
+
+sub-put-atom-3 : tie.Need-sub-put-atom-3
+sub-put-atom-3 c = search needs
+
+part-put-atom-start-3 : tie.Need-part-put-atom-start-3
+part-put-atom-start-3 c = search needs
+
+part-put-atom-end-3 : tie.Need-part-put-atom-end-3
+part-put-atom-end-3 c = search needs
+
+put-atom-requires : tie.Need-put-atom-requires
+put-atom-requires c κs =
+    let w = c .before .before .before .before .before .before .before .before .before .before .before .before .before .before .before .before .before .before .before .before .before .before .before .pre in (
+      shape-from w _ _ _ (c .before .before .before .before .before .before .before .before .before .before .before .before .before .before .before .before .before .wide .ensures .0) (c .before .before .before .before .before .before .before .before .before .before .before .before .before .before .before .wide2 .ensures .0) (c .before .before .before .before .before .before .before .before .before .before .before .before .before .wide3 .ensures .0),
+      shape-named w _ _ _ (c .before .before .before .before .before .before .before .before .before .before .before .before .before .before .before .before .before .wide .ensures .0) (c .before .before .before .before .before .before .before .before .before .before .before .before .before .before .before .wide2 .ensures .0) (c .before .before .before .before .before .before .before .before .before .before .before .before .before .wide3 .ensures .0),
+    )
 
 put-byte-requires : tie.Need-put-byte-requires
 put-byte-requires c κs = search needs
@@ -71,8 +90,9 @@ same-length c = search needs
 
 returns : tie.Need-returns
 returns c = λ w.
-    rw (← shape-run w _ _ (c .before .before .before .before .before .before .before .before .before .before .before .before .before .before .before .before .before .before .before .before .wide .ensures .0) (c .before .before .before .before .before .before .before .before .before .before .before .before .before .before .before .before .before .before .wide2 .ensures .0))
-    (put-append (put-append (put-append (c .before .before .before .before .before .before .before .before .before .before .before .before .before .before .before .put-bytes .ensures) (c .before .before .before .before .before .before .before .before .before .before .before .put-wide .ensures)) (c .before .before .before .before .before .before .put-cells .ensures)) (c .before .before .put-byte .ensures))
+    let a = shape-from w _ _ _ (c .before .before .before .before .before .before .before .before .before .before .before .before .before .before .before .before .before .before .before .before .before .before .before .before .wide .ensures .0) (c .before .before .before .before .before .before .before .before .before .before .before .before .before .before .before .before .before .before .before .before .before .before .wide2 .ensures .0) (c .before .before .before .before .before .before .before .before .before .before .before .before .before .before .before .before .before .before .before .before .wide3 .ensures .0) in
+    let put = shape-put w _ _ _ (c .before .before .before .before .before .before .before .before .before .before .before .before .before .before .before .before .before .before .before .before .before .before .before .before .wide .ensures .0) (c .before .before .before .before .before .before .before .before .before .before .before .before .before .before .before .before .before .before .before .before .before .before .wide2 .ensures .0) (c .before .before .before .before .before .before .before .before .before .before .before .before .before .before .before .before .before .before .before .before .wide3 .ensures .0) (c .before .before .before .before .before .before .put-atom .ensures a) in
+    put-append (put-append (put-append (c .before .before .before .before .before .before .before .before .before .before .before .before .before .before .before .before .before .put-bytes .ensures) (c .before .before .before .before .before .before .before .before .before .before .before .before .before .put-wide .ensures)) put) (c .before .before .put-byte .ensures)
 
 pub shape-line-spec : {M : Type 1} → statement M
 shape-line-spec =
@@ -83,20 +103,25 @@ shape-line-spec =
     shared-slice-read-wide
     wide-requires
     add-from
-    add-wide-2
-    add-wide-3
-    mul-wide-2
     shared-slice-read-wide-2
     wide-requires-2
-    add-to
+    shared-slice-read-wide-3
+    wide-requires-3
     slice-aggregate-put-bytes
     put-bytes-requires
     put-wide-requires
-    mul-put-cells
-    sub-put-cells
-    part-put-cells-start
-    part-put-cells-end
-    put-cells-requires
+    sub-put-atom
+    part-put-atom-start
+    part-put-atom-end
+    mul-put-atom
+    sub-put-atom-2
+    part-put-atom-start-2
+    part-put-atom-end-2
+    mul-put-atom-2
+    sub-put-atom-3
+    part-put-atom-start-3
+    part-put-atom-end-3
+    put-atom-requires
     put-byte-requires
     same-length
     returns)
