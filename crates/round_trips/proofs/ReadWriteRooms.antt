@@ -43,7 +43,7 @@ unfolding encode
 counts-first p = (refl, refl)
 
 -- as many names as the words declare symbols
-names-counted : (text : List ℕ) (s : Scenario) → readOf text ≡ right s → (getD (s .words) 0 0 + getD (s .words) 1 0) * nameBytes ≡ length (s .names)
+pub names-counted : (text : List ℕ) (s : Scenario) → readOf text ≡ right s → (getD (s .words) 0 0 + getD (s .words) 1 0) * nameBytes ≡ length (s .names)
 names-counted text s e =
     let r = text-read text s e .program in
     let counts = counts-first (r .program) in
@@ -70,10 +70,10 @@ module _ (text : List ℕ) (words names : ℕ) where
   abbrev pub namesRead : List ℕ
   namesRead = take ((getD wordsRead 0 0 + getD wordsRead 1 0) * nameBytes) (namesIn names (answerOf text words names))
 
-  words-are : (s : Scenario) → answerOf text words names ≡ right s → wordsRead ≡ s .words
+  pub words-are : (s : Scenario) → answerOf text words names ≡ right s → wordsRead ≡ s .words
   words-are s e = rw e (front-is words (s .words) (inRoom words (s .words)) refl (answered text words names s e .words-fit))
 
-  names-are : (s : Scenario) → answerOf text words names ≡ right s → namesRead ≡ s .names
+  pub names-are : (s : Scenario) → answerOf text words names ≡ right s → namesRead ≡ s .names
   names-are s e =
       let a = answered text words names s e in
       rw (words-are s e, names-counted text s (a .read), e) (front-is names (s .names) (inRoom names (s .names)) refl (a .names-fit))

@@ -1,0 +1,5 @@
+-- Laws of what is printed for a text.
+pub mod RefusedLines
+pub mod Listings
+pub mod ReadRooms
+pub mod PrintedOnce

@@ -1,0 +1,114 @@
+-- `printing::print::print` meets its contract: the rooms lent to the reader are always enough, and what it leaves there is the text's program with its names. Assumes nothing.
+use mathlib.Core.Path.{sym}
+use native.Mathlib.Omega.{arith}
+use lib.Seq.{length-take-le}
+use borrow.Author.Needs.{needs}
+use Rattle.printing.specs.Printed.{unread, read}
+use Rattle.printing.proofs.ReadRooms.{refused-unread, accepted-kept}
+use Rattle.printing.proofs.print.print.Statement.{statement}
+use Rattle.printing.proofs.print.print.Tie as tie
+
+slice-aggregate-read : tie.Need-slice-aggregate-read
+slice-aggregate-read c = search needs
+
+slice-aggregate-read-2 : tie.Need-slice-aggregate-read-2
+slice-aggregate-read-2 c = search needs
+
+read-requires : tie.Need-read-requires
+read-requires c κs = search needs
+
+refuse-requires : tie.Need-refuse-requires
+refuse-requires c κs = search needs
+
+same-length : tie.Need-same-length
+same-length c = search needs
+
+returns : tie.Need-returns
+returns c =
+    let r = c .before .before .before .before .before .before .before .before .read in
+    (c .before .before .refuse .ensures .0, unread _ _ (refused-unread (c .before .before .before .before .before .before .before .before .before .before .before .before .before .args .text .now) (r .ensures .0) (c .before .before .before .before .if1 .taken)) (c .before .before .refuse .ensures .1))
+
+array-share-prefix-words : tie.Need-array-share-prefix-words
+array-share-prefix-words c =
+    let r = c .before .before .before .before .read in
+    let k = accepted-kept (c .before .before .before .before .before .before .before .before .before .args .text .now) (r .ensures .0) (r .ensures .1 .0) (r .ensures .1 .1) (c .if1 .left) in
+    omega (arith, k .words-fit, r .kept .1 .0)
+
+slice-aggregate-program : tie.Need-slice-aggregate-program
+slice-aggregate-program c =
+    let r = c .before .before .before .before .before .read in
+    let k = accepted-kept (c .before .before .before .before .before .before .before .before .before .before .args .text .now) (r .ensures .0) (r .ensures .1 .0) (r .ensures .1 .1) (c .before .if1 .left) in
+    sym (length-take-le (r .result .count) (r .last .1 .0) (omega (arith, k .words-fit, r .kept .1 .0)))
+
+shared-slice-read-wide : tie.Need-shared-slice-read-wide
+shared-slice-read-wide c =
+    let r = c .before .before .before .before .before .before .read in
+    let k = accepted-kept (c .before .before .before .before .before .before .before .before .before .before .before .args .text .now) (r .ensures .0) (r .ensures .1 .0) (r .ensures .1 .1) (c .before .before .if1 .left) in
+    omega (arith, k .counts-there, length-take-le (r .result .count) (r .last .1 .0) (omega (arith, k .words-fit, r .kept .1 .0)))
+
+wide-requires : tie.Need-wide-requires
+wide-requires c κs = search needs
+
+shared-slice-read-wide-2 : tie.Need-shared-slice-read-wide-2
+shared-slice-read-wide-2 c =
+    let r = c .before .before .before .before .before .before .before .before .read in
+    let k = accepted-kept (c .before .before .before .before .before .before .before .before .before .before .before .before .before .args .text .now) (r .ensures .0) (r .ensures .1 .0) (r .ensures .1 .1) (c .before .before .before .before .if1 .left) in
+    omega (arith, k .counts-there, length-take-le (r .result .count) (r .last .1 .0) (omega (arith, k .words-fit, r .kept .1 .0)))
+
+wide-requires-2 : tie.Need-wide-requires-2
+wide-requires-2 c κs = search needs
+
+add-size : tie.Need-add-size
+add-size c = search needs
+
+mul-size : tie.Need-mul-size
+mul-size c = search needs
+
+array-share-prefix-names : tie.Need-array-share-prefix-names
+array-share-prefix-names c =
+    let r = c .before .before .before .before .before .before .before .before .before .read in
+    let k = accepted-kept (c .before .before .before .before .before .before .before .before .before .before .before .before .before .before .args .text .now) (r .ensures .0) (r .ensures .1 .0) (r .ensures .1 .1) (c .before .before .before .before .before .if1 .left) in
+    omega (arith, k .names-fit, c .before .before .wide .ensures .0, c .wide2 .ensures .0, r .kept .1 .1 .0)
+
+slice-aggregate-print-listing : tie.Need-slice-aggregate-print-listing
+slice-aggregate-print-listing c =
+    let r = c .before .before .before .before .before .before .before .before .before .before .read in
+    let k = accepted-kept (c .before .before .before .before .before .before .before .before .before .before .before .before .before .before .before .args .text .now) (r .ensures .0) (r .ensures .1 .0) (r .ensures .1 .1) (c .before .before .before .before .before .before .if1 .left) in
+    sym (length-take-le _ (r .last .1 .1 .0) (omega (arith, k .names-fit, c .before .before .before .wide .ensures .0, c .before .wide2 .ensures .0, r .kept .1 .1 .0)))
+
+print-listing-requires : tie.Need-print-listing-requires
+print-listing-requires c κs = search needs
+
+same-length-2 : tie.Need-same-length-2
+same-length-2 c = search needs
+
+returns-2 : tie.Need-returns-2
+returns-2 c =
+    let r = c .before .before .before .before .before .before .before .before .before .before .before .before .before .before .read in
+    let k = accepted-kept (c .before .before .before .before .before .before .before .before .before .before .before .before .before .before .before .before .before .before .before .args .text .now) (r .ensures .0) (r .ensures .1 .0) (r .ensures .1 .1) (c .before .before .before .before .before .before .before .before .before .before .if1 .left) in
+    let p = c .before .before .print-listing .ensures in
+    (p .0, read (k .scenario) (k .read) (rw (c .before .before .before .before .before .before .before .wide .ensures .0, c .before .before .before .before .before .wide2 .ensures .0, k .names-kept, k .words-kept) at (p .1)))
+
+pub print-spec : {M : Type 1} → statement M
+print-spec =
+    tie.close
+    (tie.spec
+    slice-aggregate-read
+    slice-aggregate-read-2
+    read-requires
+    refuse-requires
+    same-length
+    returns
+    array-share-prefix-words
+    slice-aggregate-program
+    shared-slice-read-wide
+    wide-requires
+    shared-slice-read-wide-2
+    wide-requires-2
+    add-size
+    mul-size
+    array-share-prefix-names
+    slice-aggregate-print-listing
+    print-listing-requires
+    same-length-2
+    returns-2)
