@@ -1,0 +1,2 @@
+-- Laws of reading a sample of a known length.
+pub mod Fronts
