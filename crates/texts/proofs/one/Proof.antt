@@ -1,8 +1,7 @@
--- `texts::one` meets its contract. Assumes nothing.
+-- `texts::one` is safe and ends: what was read is as long as the front of the buffer that was lent. Assumes nothing.
 use mathlib.Core.Path.{sym}
-use native.Mathlib.Omega.{arith}
-use lib.ListN.{length-take, length-append, length-drop}
 use lib.Seq.{length-take-le}
+use Rattle.frames.proofs.Fronts.{front-length}
 use borrow.Author.Needs.{needs}
 use Rattle.texts.proofs.one.Statement.{statement}
 use Rattle.texts.proofs.one.Tie as tie
@@ -16,6 +15,21 @@ read-full-requires c κs = search needs
 returns : tie.Need-returns
 returns c = search needs
 
+array-read-length-of : tie.Need-array-read-length-of
+array-read-length-of c = search needs
+
+array-read-length-of-2 : tie.Need-array-read-length-of-2
+array-read-length-of-2 c = search needs
+
+array-read-length-of-3 : tie.Need-array-read-length-of-3
+array-read-length-of-3 c = search needs
+
+array-read-length-of-4 : tie.Need-array-read-length-of-4
+array-read-length-of-4 c = search needs
+
+array-read-length-of-5 : tie.Need-array-read-length-of-5
+array-read-length-of-5 c = search needs
+
 length-of-requires : tie.Need-length-of-requires
 length-of-requires c κs = search needs
 
@@ -26,78 +40,26 @@ slice-relend-prefix-read-full : tie.Need-slice-relend-prefix-read-full
 slice-relend-prefix-read-full c = search needs
 
 slice-aggregate-read-full-2 : tie.Need-slice-aggregate-read-full-2
-slice-aggregate-read-full-2 c = sym (length-take-le (c .before .before .length-of .result) (c .before .before .before .before .before .before .before .before .before .before .args .text .now) (omega arith))
+slice-aggregate-read-full-2 c = sym (length-take-le (c .before .before .length-of .result) (c .before .before .before .before .before .before .before .before .args .text .now) (c .before .if2 .left))
 
 read-full-requires-2 : tie.Need-read-full-requires-2
 read-full-requires-2 c κs = search needs
 
-slice-reshare-prefix-read : tie.Need-slice-reshare-prefix-read
-slice-reshare-prefix-read c = search needs
+slice-reshare-prefix-one-text : tie.Need-slice-reshare-prefix-one-text
+slice-reshare-prefix-one-text c = search needs
 
-slice-aggregate-read : tie.Need-slice-aggregate-read
-slice-aggregate-read c =
-    let k = c .before .before .before .read-full2 .kept .1 .0 in
-    simp (length-take, length-append, length-drop) (omega (arith, k, length-take (c .before .before .before .before .before .before .length-of .result) (c .before .before .before .before .before .before .before .before .before .before .before .before .before .before .args .text .now)))
+slice-aggregate-one-text : tie.Need-slice-aggregate-one-text
+slice-aggregate-one-text c =
+    let r = c .before .before .before .read-full2 in front-length (c .before .before .before .before .before .before .length-of .result) (c .before .before .before .before .before .before .before .before .before .before .before .before .args .text .now) (r .last .1 .0) (c .before .before .before .before .before .if2 .left) (r .kept .1 .0)
 
-read-requires : tie.Need-read-requires
-read-requires c κs = search needs
-
-slice-aggregate-write-all : tie.Need-slice-aggregate-write-all
-slice-aggregate-write-all c = search needs
-
-write-all-requires : tie.Need-write-all-requires
-write-all-requires c κs = search needs
+one-text-requires : tie.Need-one-text-requires
+one-text-requires c κs = search needs
 
 same-length : tie.Need-same-length
 same-length c = search needs
 
-same-length-2 : tie.Need-same-length-2
-same-length-2 c = search needs
-
-same-length-3 : tie.Need-same-length-3
-same-length-3 c = search needs
-
 returns-3 : tie.Need-returns-3
 returns-3 c = search needs
-
-slice-aggregate-write-all-2 : tie.Need-slice-aggregate-write-all-2
-slice-aggregate-write-all-2 c = search needs
-
-write-all-requires-2 : tie.Need-write-all-requires-2
-write-all-requires-2 c κs = search needs
-
-cast-print-decimal : tie.Need-cast-print-decimal
-cast-print-decimal c = search needs
-
-print-decimal-requires : tie.Need-print-decimal-requires
-print-decimal-requires c κs = search needs
-
-slice-aggregate-write-all-3 : tie.Need-slice-aggregate-write-all-3
-slice-aggregate-write-all-3 c = search needs
-
-write-all-requires-3 : tie.Need-write-all-requires-3
-write-all-requires-3 c κs = search needs
-
-print-decimal-requires-2 : tie.Need-print-decimal-requires-2
-print-decimal-requires-2 c κs = search needs
-
-slice-aggregate-write-all-4 : tie.Need-slice-aggregate-write-all-4
-slice-aggregate-write-all-4 c = search needs
-
-write-all-requires-4 : tie.Need-write-all-requires-4
-write-all-requires-4 c κs = search needs
-
-same-length-4 : tie.Need-same-length-4
-same-length-4 c = search needs
-
-same-length-5 : tie.Need-same-length-5
-same-length-5 c = search needs
-
-same-length-6 : tie.Need-same-length-6
-same-length-6 c = search needs
-
-returns-4 : tie.Need-returns-4
-returns-4 c = search needs
 
 pub one-spec : {M : Type 1} → statement M
 one-spec =
@@ -106,30 +68,18 @@ one-spec =
     slice-aggregate-read-full
     read-full-requires
     returns
+    array-read-length-of
+    array-read-length-of-2
+    array-read-length-of-3
+    array-read-length-of-4
+    array-read-length-of-5
     length-of-requires
     returns-2
     slice-relend-prefix-read-full
     slice-aggregate-read-full-2
     read-full-requires-2
-    slice-reshare-prefix-read
-    slice-aggregate-read
-    read-requires
-    slice-aggregate-write-all
-    write-all-requires
+    slice-reshare-prefix-one-text
+    slice-aggregate-one-text
+    one-text-requires
     same-length
-    same-length-2
-    same-length-3
-    returns-3
-    slice-aggregate-write-all-2
-    write-all-requires-2
-    cast-print-decimal
-    print-decimal-requires
-    slice-aggregate-write-all-3
-    write-all-requires-3
-    print-decimal-requires-2
-    slice-aggregate-write-all-4
-    write-all-requires-4
-    same-length-4
-    same-length-5
-    same-length-6
-    returns-4)
+    returns-3)
