@@ -15,6 +15,7 @@ use Rattle.reader.specs.Table.{Read, wrong, right, next}
 use Rattle.reader.specs.Lines.{Scenario}
 use Rattle.reader.specs.Read as reads
 use Rattle.writer.specs.Write as writes
+use Rattle.lister.proofs.ListedOnce.{wrong-or-right}
 use Rattle.round_trips.proofs.ReadFaults.{FaultyBy, read-faults}
 use Rattle.round_trips.proofs.WriteFaults.{write-faults}
 use Rattle.demands.specs.Promises.{readLeft, Reads, Writes, ReadLarger, WriteLarger}
@@ -23,9 +24,6 @@ use Rattle.demands.specs.Replies.{Replies}
 -- what is found is one thing
 right-once : {A : Type 0} {a b : A} (o : Read A) → o ≡ right a → o ≡ right b → a ≡ b
 right-once o d e = cc
-
-pub wrong-or-right : {A : Type 0} {number place : ℕ} {a : A} (o : Read A) → o ≡ wrong number place → o ≡ right a → ⊥
-wrong-or-right o d e = let z : _≡_ {A = ℕ} 0 1 = cc in omega arith
 
 module _ (text : List ℕ) (words names : ℕ) where
   abbrev readZeros : List ℕ × List ℕ

@@ -16,12 +16,11 @@ use Rattle.table.proofs.PromiseMet.{promise-met}
 use Rattle.reader.specs.Table.{right}
 use Rattle.lister.specs.Listing.{listingOf}
 use Rattle.lister.specs.Listed.{namesFor, Refused, Listed, faulty, misnamed, unlisted, over, listed}
-use Rattle.lister.proofs.ListedOnce.{listed-unique, listed-met}
+use Rattle.lister.proofs.ListedOnce.{wrong-or-right, listed-unique, listed-met}
 use Rattle.round_trips.proofs.ReadFaults.{FaultyBy, FaultNumber}
 use Rattle.round_trips.proofs.WriteFaults.{names-faults}
 use Rattle.demands.specs.Promises.{Analyses, AnalyseLarger, Lists, ListLarger}
 use Rattle.demands.specs.Replies.{Replies}
-use Rattle.demands.proofs.ReadReplies.{wrong-or-right}
 
 numbers : {r r′ : Reply} → r ≡ r′ → r .number ≡ r′ .number
 numbers e = ap (λ (r : Reply). r .number) e

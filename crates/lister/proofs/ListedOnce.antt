@@ -25,7 +25,7 @@ refused-once : {size room number place : ℕ} {r r′ : Reply} {t t′ o o′ : 
 refused-once a b = (a .reply-is ∙ sym (b .reply-is), a .table-zero ∙ sym (b .table-zero), a .out-zero ∙ sym (b .out-zero))
 
 -- names are sound or not
-wrong-or-right : {A : Type 0} {number place : ℕ} {a : A} (x : Read A) → x ≡ wrong number place → x ≡ right a → ⊥
+pub wrong-or-right : {A : Type 0} {number place : ℕ} {a : A} (x : Read A) → x ≡ wrong number place → x ≡ right a → ⊥
 wrong-or-right x d e = let z : _≡_ {A = ℕ} 0 1 = cc in omega arith
 
 module _ (words names : List ℕ) (size room : ℕ) where
