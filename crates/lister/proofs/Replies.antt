@@ -13,7 +13,6 @@ use Rattle.directory.proofs.AcceptedWords.{said-is, first-three, predicate-coun
 use Rattle.directory.specs.Directory.{Directory}
 use Rattle.table.specs.Table.{Entry, rowSize, tableWords, Promise, faulty, listed, full, unmarked}
 use Rattle.table.specs.Keys.{Regular}
-use Rattle.table.proofs.FaultNumbers.{fault-number}
 use Rattle.table.proofs.Promise.{fault-or-sound, sound-same, table-once, neither-never, accepted-listed, refused-zeros}
 use Rattle.table.proofs.Regular.{at-regular}
 use Rattle.text.specs.Name.{maxNames}
@@ -31,15 +30,6 @@ module _ (words : List ℕ) (r : Reply) (is : r ≡ replyOf (faults words)) wher
       at : (f : Found) → faults words ≡ f → faults words ≡ fault (r .number) (r .place)
       at (fault number place) e = rw (is ∙ ap replyOf e) e
       at (sound p) e = absurd (d (ap (λ (x : Reply). x .number) (is ∙ ap replyOf e)))
-
-  pub scan-sound : r .number ≡ accepted → (p : Program) × (faults words ≡ sound p)
-  scan-sound z = at (faults words) refl
-    where
-      at : (f : Found) → faults words ≡ f → (p : Program) × (faults words ≡ sound p)
-      at (sound p) e = (p, e)
-      at (fault number place) e =
-          let n : r .number ≡ number = ap (λ (x : Reply). x .number) (is ∙ ap replyOf e) in
-          absurd (omega (arith, fault-number words number place e))
 
 -- how many symbols there are
 module _ (words : List ℕ) (p : Program) (e : faults words ≡ sound p) where

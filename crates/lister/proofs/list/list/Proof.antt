@@ -1,8 +1,9 @@
 -- `lister::list::list` meets its contract: faults first, then the names, then the room. Assumes nothing.
 use native.Mathlib.Omega.{arith}
 use mathlib.Core.Path.{sym}
+use Rattle.program.proofs.FaultNumbers.{accepted-sound}
 use Rattle.lister.specs.Listed.{faulty, misnamed, unlisted}
-use Rattle.lister.proofs.Replies.{scan-faulty, scan-sound, words-there, predicates-counted, functions-counted, symbols-few, names-replied, names-faulty, names-sound, analysis-refused, analysis-filled}
+use Rattle.lister.proofs.Replies.{scan-faulty, words-there, predicates-counted, functions-counted, symbols-few, names-replied, names-faulty, names-sound, analysis-refused, analysis-filled}
 use borrow.Author.Needs.{needs}
 use Rattle.lister.proofs.list.list.Statement.{statement}
 use Rattle.lister.proofs.list.list.Tie as tie
@@ -24,21 +25,21 @@ returns c = faulty _ _ (scan-faulty _ (c .before .before .before .before .before
 
 shared-slice-read-wide : tie.Need-shared-slice-read-wide
 shared-slice-read-wide c =
-    let (p, e) = scan-sound _ (c .before .before .before .scan .result) (c .before .before .before .scan .ensures) (c .before .if1 .left) in omega (arith, words-there _ p e)
+    let (p, e) = accepted-sound _ (c .before .before .before .scan .result) (c .before .before .before .scan .ensures) (c .before .if1 .left) in omega (arith, words-there _ p e)
 
 wide-requires : tie.Need-wide-requires
 wide-requires c κs = search needs
 
 shared-slice-read-wide-2 : tie.Need-shared-slice-read-wide-2
 shared-slice-read-wide-2 c =
-    let (p, e) = scan-sound _ (c .before .before .before .before .before .scan .result) (c .before .before .before .before .before .scan .ensures) (c .before .before .before .if1 .left) in omega (arith, words-there _ p e)
+    let (p, e) = accepted-sound _ (c .before .before .before .before .before .scan .result) (c .before .before .before .before .before .scan .ensures) (c .before .before .before .if1 .left) in omega (arith, words-there _ p e)
 
 wide-requires-2 : tie.Need-wide-requires-2
 wide-requires-2 c κs = search needs
 
 names-reply-requires : tie.Need-names-reply-requires
 names-reply-requires c κs =
-    let (p, e) = scan-sound _ (c .before .before .before .before .before .before .scan .result) (c .before .before .before .before .before .before .scan .ensures) (c .before .before .before .before .if1 .left) in
+    let (p, e) = accepted-sound _ (c .before .before .before .before .before .before .scan .result) (c .before .before .before .before .before .before .scan .ensures) (c .before .before .before .before .if1 .left) in
     omega (arith, symbols-few _ p e, predicates-counted _ p e, functions-counted _ p e, c .before .before .wide .ensures .0, c .wide2 .ensures .0)
 
 refuse-requires-2 : tie.Need-refuse-requires-2
@@ -52,7 +53,7 @@ same-length-4 c = search needs
 
 returns-2 : tie.Need-returns-2
 returns-2 c =
-    let (p, e) = scan-sound _ (c .before .before .before .before .before .before .before .before .before .before .before .before .before .before .before .before .scan .result) (c .before .before .before .before .before .before .before .before .before .before .before .before .before .before .before .before .scan .ensures) (c .before .before .before .before .before .before .before .before .before .before .before .before .before .before .if1 .left) in
+    let (p, e) = accepted-sound _ (c .before .before .before .before .before .before .before .before .before .before .before .before .before .before .before .before .scan .result) (c .before .before .before .before .before .before .before .before .before .before .before .before .before .before .before .before .scan .ensures) (c .before .before .before .before .before .before .before .before .before .before .before .before .before .before .if1 .left) in
     let names = c .before .before .before .before .before .before .before .before .before .before .before .before .before .before .before .before .before .before .before .before .before .args .names .now in
     let r = c .before .before .before .before .before .before .before .before .before .names-reply .result in
     let is = names-replied _ p e names r _ _ (c .before .before .before .before .before .before .before .before .before .before .before .before .wide .ensures .0) (c .before .before .before .before .before .before .before .before .before .before .wide2 .ensures .0) (c .before .before .before .before .before .before .before .before .before .names-reply .ensures) in
@@ -72,7 +73,7 @@ same-length-6 c = search needs
 
 returns-3 : tie.Need-returns-3
 returns-3 c =
-    let (p, e) = scan-sound _ (c .before .before .before .before .before .before .before .before .before .before .before .before .before .before .before .before .before .before .before .before .before .before .scan .result) (c .before .before .before .before .before .before .before .before .before .before .before .before .before .before .before .before .before .before .before .before .before .before .scan .ensures) (c .before .before .before .before .before .before .before .before .before .before .before .before .before .before .before .before .before .before .before .before .if1 .left) in
+    let (p, e) = accepted-sound _ (c .before .before .before .before .before .before .before .before .before .before .before .before .before .before .before .before .before .before .before .before .before .before .scan .result) (c .before .before .before .before .before .before .before .before .before .before .before .before .before .before .before .before .before .before .before .before .before .before .scan .ensures) (c .before .before .before .before .before .before .before .before .before .before .before .before .before .before .before .before .before .before .before .before .if1 .left) in
     let names = c .before .before .before .before .before .before .before .before .before .before .before .before .before .before .before .before .before .before .before .before .before .before .before .before .before .before .before .args .names .now in
     let r = c .before .before .before .before .before .before .before .before .before .before .before .before .before .before .before .names-reply .result in
     let is = names-replied _ p e names r _ _ (c .before .before .before .before .before .before .before .before .before .before .before .before .before .before .before .before .before .before .wide .ensures .0) (c .before .before .before .before .before .before .before .before .before .before .before .before .before .before .before .before .wide2 .ensures .0) (c .before .before .before .before .before .before .before .before .before .before .before .before .before .before .before .names-reply .ensures) in
@@ -81,7 +82,7 @@ returns-3 c =
 
 listed-requires : tie.Need-listed-requires
 listed-requires c κs =
-    let (p, e) = scan-sound _ (c .before .before .before .before .before .before .before .before .before .before .before .before .before .before .before .before .before .scan .result) (c .before .before .before .before .before .before .before .before .before .before .before .before .before .before .before .before .before .scan .ensures) (c .before .before .before .before .before .before .before .before .before .before .before .before .before .before .before .if1 .left) in
+    let (p, e) = accepted-sound _ (c .before .before .before .before .before .before .before .before .before .before .before .before .before .before .before .before .before .scan .result) (c .before .before .before .before .before .before .before .before .before .before .before .before .before .before .before .before .before .scan .ensures) (c .before .before .before .before .before .before .before .before .before .before .before .before .before .before .before .if1 .left) in
     let names = c .before .before .before .before .before .before .before .before .before .before .before .before .before .before .before .before .before .before .before .before .before .before .args .names .now in
     let r = c .before .before .before .before .before .before .before .before .before .before .names-reply .result in
     let is = names-replied _ p e names r _ _ (c .before .before .before .before .before .before .before .before .before .before .before .before .before .wide .ensures .0) (c .before .before .before .before .before .before .before .before .before .before .before .wide2 .ensures .0) (c .before .before .before .before .before .before .before .before .before .before .names-reply .ensures) in
