@@ -14,8 +14,8 @@ use Rattle.text.proofs.Rooms.{inRoom-empty}
 use Rattle.reader.specs.Table.{Read, wrong, right, next}
 use Rattle.reader.specs.Lines.{Scenario}
 use Rattle.reader.specs.Read as reads
+use Rattle.reader.proofs.Readings.{wrong-or-right}
 use Rattle.writer.specs.Write as writes
-use Rattle.lister.proofs.ListedOnce.{wrong-or-right}
 use Rattle.round_trips.proofs.ReadFaults.{FaultyBy, read-faults}
 use Rattle.round_trips.proofs.WriteFaults.{write-faults}
 use Rattle.demands.specs.Promises.{readLeft, Reads, Writes, ReadLarger, WriteLarger}

@@ -12,9 +12,9 @@ use Rattle.program.specs.Program.{Program}
 use Rattle.program.specs.Faults.{clause, goal, written, declared, whole, fault, sound, faults}
 use Rattle.program.specs.Reply.{badVariable, longAtom}
 use Rattle.program.proofs.ListLaws.{listed-decided}
+use Rattle.program.proofs.ShapeLaws.{member-decided}
 use Rattle.table.specs.Rules.{call}
 use Rattle.table.specs.Table.{roomIn, listed, full, faulty as by-fault}
-use Rattle.table.proofs.Lists.{member-decided}
 use Rattle.table.proofs.ModesComputed.{modes-lists}
 use Rattle.table.proofs.Sorting.{sort}
 use Rattle.table.proofs.Samples.{legs, late}

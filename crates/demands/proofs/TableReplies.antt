@@ -9,14 +9,15 @@ use Rattle.program.specs.Program.{Program}
 use Rattle.program.specs.Faults.{Found, fault, sound, faults}
 use Rattle.program.specs.Reply.{accepted, noRoom}
 use Rattle.program.specs.declared.reply.Reply.{Reply}
+use Rattle.program.proofs.FaultNumbers.{fault-number}
 use Rattle.table.specs.Table.{Entry, roomIn, TableOf, MoreThan, Promise, faulty as by-fault, listed as by-table, full, unmarked}
-use Rattle.table.proofs.FaultNumbers.{fault-number}
 use Rattle.table.proofs.Promise.{table-once, fault-or-sound, sound-same, promise-unique, no-room-more, accepted-listed, refused-zeros, neither-never}
 use Rattle.table.proofs.PromiseMet.{promise-met}
 use Rattle.reader.specs.Table.{right}
+use Rattle.reader.proofs.Readings.{wrong-or-right}
 use Rattle.lister.specs.Listing.{listingOf}
 use Rattle.lister.specs.Listed.{namesFor, Refused, Listed, faulty, misnamed, unlisted, over, listed}
-use Rattle.lister.proofs.ListedOnce.{wrong-or-right, listed-unique, listed-met}
+use Rattle.lister.proofs.ListedOnce.{listed-unique, listed-met}
 use Rattle.round_trips.proofs.ReadFaults.{FaultyBy, FaultNumber}
 use Rattle.round_trips.proofs.WriteFaults.{names-faults}
 use Rattle.demands.specs.Promises.{Analyses, AnalyseLarger, Lists, ListLarger}

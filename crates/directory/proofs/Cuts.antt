@@ -7,9 +7,6 @@ use lib.ListN.{length, getD, take, drop, length-append, length-drop}
 use lib.Seq.{drop-drop, drop-at, take-at, getD-drop}
 use Rattle.program.specs.Program.{Nth, here, there}
 use Rattle.program.specs.Within.{Each, more}
--- what crates above cite under these names
-pub use Rattle.terms.proofs.Places.{part-from as tail-part}
-pub use Rattle.program.proofs.Nths.{nth-below as nth-within, below-nth as nth-at}
 
 -- a part between two places, as `&words[at..at + n]` has it
 pub middle-part : (words : List ℕ) (at n : ℕ) → take (at + n - at) (drop at words) ≡ take n (drop at words)

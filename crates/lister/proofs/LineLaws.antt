@@ -10,7 +10,8 @@ use Rattle.program.specs.Program.{Nth, here, there, Program}
 use Rattle.program.proofs.ShapeLaws.{nth-member}
 use Rattle.directory.specs.Layout.{shapeCount}
 use Rattle.directory.proofs.DirectoryLaws.{shape-under}
-use Rattle.directory.proofs.Cuts.{nth-at, nth-within, nth-take}
+use Rattle.program.proofs.Nths.{nth-below, below-nth}
+use Rattle.directory.proofs.Cuts.{nth-take}
 use Rattle.table.specs.Rules.{Row, call, cont, solution}
 use Rattle.table.specs.Table.{Entry, rowSize, rowWords, entryWords, tableWords}
 use Rattle.table.proofs.Entries.{table-words-length}
@@ -30,7 +31,7 @@ module _ (names : List ℕ) (predicates : ℕ) where
   pub shapes-more : {l : List Term} {s : ℕ} {S : Term} → Nth l s S
       → shapeLines names predicates 0 (take (suc s) l) ≡ shapeLines names predicates 0 (take s l) ++ shapeLine names predicates s S
   shapes-more {l} {s} {S} h =
-      let e : 0 + length (take s l) ≡ s = omega (arith, length-take-le s l (omega (arith, nth-within h))) in
+      let e : 0 + length (take s l) ≡ s = omega (arith, length-take-le s l (omega (arith, nth-below h))) in
       ap (shapeLines names predicates 0) (nth-take h) ∙ shapes-append 0 (take s l) (S ∷ [])
       ∙ ap (λ (n : ℕ). shapeLines names predicates 0 (take s l) ++ (shapeLine names predicates n S ++ [])) e
       ∙ ap (λ (x : List ℕ). shapeLines names predicates 0 (take s l) ++ x) (append-nil (shapeLine names predicates s S))
@@ -106,14 +107,14 @@ row-in {table = table} w {r} {e} h =
       round = e .round;
       row = e .row;
       regular = w .regular e (nth-member h);
-      fits = omega (arith, nth-within h, ap length (w .table-is) ∙ length-append (tableWords (w .entries)) (w .rest), table-words-length (w .entries));
+      fits = omega (arith, nth-below h, ap length (w .table-is) ∙ length-append (tableWords (w .entries)) (w .rest), table-words-length (w .entries));
       round-is = rw (w .table-is) a;
       row-is = rw (w .table-is) b;
     }
 
 -- the row that the loop has come to
 abbrev pub next-row : {dir table : List ℕ} {rows : ℕ} (w : Tabled dir table rows) (r : ℕ) → r < rows → (e : Entry) × Nth (w .entries) r e
-next-row w r l = nth-at (w .entries) r (omega (arith, w .many))
+next-row w r l = below-nth (w .entries) r (omega (arith, w .many))
 
 -- and the shape
 abbrev pub next-shape : {words dir names : List ℕ} (w : Spoken words dir names) (s count : ℕ) → count ≡ getD dir shapeCount 0 → s < count → ShapeAsked words dir names s

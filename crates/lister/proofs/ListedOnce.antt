@@ -16,6 +16,7 @@ use Rattle.text.specs.Room.{inRoom}
 use Rattle.writer.specs.Names.{namesReply}
 use Rattle.writer.proofs.Answers.{names-right}
 use Rattle.reader.specs.Table.{Read, wrong, right}
+use Rattle.reader.proofs.Readings.{wrong-or-right}
 use Rattle.lister.specs.Listing.{listingOf}
 use Rattle.lister.specs.Listed.{namesFor, Refused, Rows, Listed, faulty, misnamed, unlisted, over, listed}
 
@@ -25,9 +26,6 @@ refused-once : {size room number place : ℕ} {r r′ : Reply} {t t′ o o′ : 
 refused-once a b = (a .reply-is ∙ sym (b .reply-is), a .table-zero ∙ sym (b .table-zero), a .out-zero ∙ sym (b .out-zero))
 
 -- names are sound or not
-pub wrong-or-right : {A : Type 0} {number place : ℕ} {a : A} (x : Read A) → x ≡ wrong number place → x ≡ right a → ⊥
-wrong-or-right x d e = let z : _≡_ {A = ℕ} 0 1 = cc in omega arith
-
 module _ (words names : List ℕ) (size room : ℕ) where
   named-once : {p p′ : Program} {number place : ℕ} → faults words ≡ sound p → faults words ≡ sound p′ → namesFor p names ≡ wrong number place → namesFor p′ names ≡ right names → ⊥
   named-once f f′ w n = wrong-or-right _ (rw (sound-same _ f f′) at w) n

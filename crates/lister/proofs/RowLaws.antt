@@ -14,7 +14,7 @@ use Rattle.program.specs.Shapes.{shapes, Listed}
 use Rattle.program.proofs.ShapeLaws.{nth-getD}
 use Rattle.directory.specs.Layout.{bodyList, clauseFirst, shapeVars, dirWords, maxShapes}
 use Rattle.directory.specs.Directory.{Directory}
-use Rattle.directory.proofs.Cuts.{nth-within}
+use Rattle.program.proofs.Nths.{nth-below}
 use Rattle.table.specs.Rules.{Row, call, cont, solution}
 use Rattle.table.specs.Table.{rowSize, rowWords}
 use Rattle.table.specs.Keys.{Regular, regular-call, regular-cont, regular-solution}
@@ -87,7 +87,7 @@ module _ {dir : List ℕ} {kind a b : ℕ} (w : AboutRow dir kind a b) where
 
     pub clause-there : (1 ≤ a) × (a ≤ 64) × (1 ≤ b)
     unfolding at
-    clause-there = (omega (arith, at .clause-is), omega (arith, at .clause-is, nth-within (at .nth-clause), setting-within (w .setting) .clauses-most), omega (arith, at .place-is))
+    clause-there = (omega (arith, at .clause-is), omega (arith, at .clause-is, nth-below (at .nth-clause), setting-within (w .setting) .clauses-most), omega (arith, at .place-is))
 
     -- the list of its place stands in the directory
     pub list-there : (x first y : ℕ) → x ≡ a → first ≡ getD dir (clauseFirst + (x - 1)) 0 → y ≡ b
@@ -115,7 +115,7 @@ module _ {dir : List ℕ} {kind a b : ℕ} (w : AboutRow dir kind a b) where
 
     pub shape-few : a < maxShapes
     unfolding of
-    shape-few = omega (arith, nth-within (of .nth-shape), d .shape-count, d .shapes-most)
+    shape-few = omega (arith, nth-below (of .nth-shape), d .shape-count, d .shapes-most)
 
 -- row r of the table, by its words
 abbrev pub about-row : {dir table : List ℕ} {r : ℕ} → RowIn dir table r

@@ -9,7 +9,7 @@ use Rattle.program.specs.Shapes.{shapes}
 use Rattle.directory.specs.Layout.{functionsStart, clausesStart, shapeStart, shapeCells, predicatesStart, maxShapes, dirWords}
 use Rattle.directory.specs.Directory.{Directory, ShapeAt}
 use Rattle.directory.specs.From.{Atom-from}
-use Rattle.directory.proofs.Cuts.{nth-within}
+use Rattle.program.proofs.Nths.{nth-below}
 use Rattle.directory.proofs.DirectoryLaws.{shape-sound}
 use Rattle.steps.proofs.Meetings.{setting-within}
 use Rattle.text.specs.Put.{Put}
@@ -25,7 +25,7 @@ module _ {words dir names : List ℕ} {s : ℕ} (w : ShapeAsked words dir names 
   d = w .spoken .setting .directory
 
   pub shape-few : (s < maxShapes) × (length dir ≡ dirWords)
-  shape-few = (omega (arith, nth-within (w .nth-shape), d .shape-count, d .shapes-most), d .size)
+  shape-few = (omega (arith, nth-below (w .nth-shape), d .shape-count, d .shapes-most), d .size)
 
   module _ (from functions clauses : ℕ) (from-is : from ≡ getD dir (shapeStart + s) 0) (functions-is : functions ≡ getD dir functionsStart 0) (clauses-is : clauses ≡ getD dir clausesStart 0) where
     pub arities-within : (predicatesStart ≤ functions) × (functions ≤ clauses) × (clauses ≤ length words)

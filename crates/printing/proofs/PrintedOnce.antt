@@ -6,7 +6,8 @@ use Rattle.program.specs.declared.reply.Reply.{Reply}
 use Rattle.reader.specs.Table.{Read, wrong, right}
 use Rattle.reader.specs.Lines.{Scenario}
 use Rattle.reader.specs.Read.{readOf}
-use Rattle.lister.proofs.ListedOnce.{wrong-or-right, listed-unique, listed-met}
+use Rattle.reader.proofs.Readings.{wrong-or-right}
+use Rattle.lister.proofs.ListedOnce.{listed-unique, listed-met}
 use Rattle.printing.specs.Printed.{refusedLine, tableRoom, listingRoom, shown, PrintedOf, Printed, unread, read}
 
 -- of a program with its names

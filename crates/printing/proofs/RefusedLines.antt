@@ -1,26 +1,15 @@
 -- The line of a refusal: it is short, so that it has room, and its five parts one behind another are the line.
-use Prim.Native.Nat.{ℕ, zero, suc, _+_, _/_, _%_, _≤_, min}
+use Prim.Native.Nat.{ℕ, _≤_, min}
 use mathlib.Core.Path.{_≡_, refl, sym, ap, _∙_}
-use mathlib.Core.Bool.{Bool, true, false, cond}
 use mathlib.Core.List.{List, [], _∷_, _++_, append-assoc, append-nil}
 use native.Mathlib.Omega.{arith}
 use lib.ListN.{length, take, length-append}
-use lib.Dec.{ltb}
-use Rattle.text.specs.Decimal.{digits, decimal}
+use Rattle.text.specs.Decimal.{decimal}
 use Rattle.text.specs.Line.{tab, lineFeed}
 use Rattle.text.specs.Put.{Put}
-use Rattle.text.specs.Token.{digit0}
+use Rattle.text.proofs.Decimals.{digits-few}
 use Rattle.text.proofs.Puts.{put-append, put-place, put-front}
 use Rattle.printing.specs.Printed.{refusedWord, refusedLine, listingRoom}
-
--- a number of at most so many digits has at most so many
-digits-few : (count n : ℕ) → length (digits count n) ≤ count
-digits-few zero n = omega arith
-digits-few (suc count) n = by (ltb n 10) (digits-few count (n / 10))
-  where
-    by : (b : Bool) → length (digits count (n / 10)) ≤ count → length (cond b ((digit0 + n) ∷ []) (digits count (n / 10) ++ (digit0 + n % 10) ∷ [])) ≤ suc count
-    by true few = omega arith
-    by false few = omega (arith, few, length-append (digits count (n / 10)) ((digit0 + n % 10) ∷ []))
 
 module _ (number place : ℕ) where
   -- the parts in the order in which they are put

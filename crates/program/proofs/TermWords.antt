@@ -8,7 +8,7 @@ use lib.Dec.{ltb}
 use borrow.Author.Tests.{lt-ltb, le-ltb, ltb-true, ltb-false}
 use Rattle.terms.specs.Term.{Terms, nil, cons, count}
 use Rattle.terms.specs.Cells.{encs, Keepss, atomCells, firstVariable, variables, takeTerms, dropTerms}
-use Rattle.terms.proofs.Runs.{count-take, count-drop, keeps-take, keeps-drop}
+use Rattle.terms.proofs.Runs.{encs-split, count-take, count-drop, keeps-take, keeps-drop}
 use Rattle.program.specs.Limits.{maxVariable}
 use Rattle.program.specs.Reply.{tooSoon, undeclared, badVariable, longAtom}
 use Rattle.program.specs.Reading.{Read, wrong, right, pick}
@@ -18,8 +18,6 @@ use Rattle.program.specs.declared.cells.Cell.{Cell}
 use Rattle.program.specs.declared.cells.Cell.the-variants.{Bad, Opens}
 use Rattle.program.proofs.Taking.{pick-cases, terms-cell, no-terms}
 use Rattle.program.proofs.Words.{next-right}
--- what crates above cite from here
-pub use Rattle.terms.proofs.Runs.{encs-split}
 
 -- what a cell says that opens so many terms: a declared function, or a variable that skips no number
 pub data Says (functions : List ℕ) (taken seen w : ℕ) : Cell → Type 0 where

@@ -11,3 +11,4 @@ pub mod Hands
 pub mod Texts
 pub mod Takes
 pub mod Rows
+pub mod Readings

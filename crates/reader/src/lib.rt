@@ -1,13 +1,13 @@
 // From scenario text to an encoded program with names.
-pub mod atoms;
-pub mod cells;
-pub mod declaration;
-pub mod declare;
-pub mod fields;
-pub mod keyword;
-pub mod lined;
-pub mod lines;
-pub mod look;
+mod atoms;
+mod cells;
+mod declaration;
+mod declare;
+mod fields;
+mod keyword;
+mod lined;
+mod lines;
+mod look;
 pub mod read;
-pub mod state;
-pub mod symbol;
+mod state;
+mod symbol;

@@ -9,13 +9,13 @@ use lib.Dec.{eqb, ltb}
 use borrow.Author.Tests.{lt-ltb, le-ltb, ltb-true, eqb-true, eq-eqb, ne-eqb}
 use Rattle.terms.specs.Term.{Term, Terms, app, nil}
 use Rattle.terms.specs.Cells.{enc, encs, firstVariable, atomCells}
+use Rattle.terms.proofs.Runs.{encs-split}
 use Rattle.program.specs.Limits.{maxBody, maxVariable}
 use Rattle.program.specs.Reply.{tooSoon, follows}
 use Rattle.program.specs.Reading.{right as part}
 use Rattle.program.specs.Atoms.{cellOf, build, terms, atom, atoms}
 use Rattle.program.specs.declared.cells.Cell.the-variants.{Opens}
 use Rattle.program.proofs.Taking.{terms-cell, no-terms}
-use Rattle.program.proofs.TermWords.{encs-split}
 use Rattle.program.proofs.WordsOfTerms.{function-opens, variable-opens}
 use Rattle.text.specs.Decimal.{decimal}
 use Rattle.reader.specs.Table.{wrong, right, next, Table}

@@ -8,8 +8,8 @@ use lib.ListN.{length}
 use lib.Dec.{ltb}
 use Rattle.program.specs.Reply.{accepted, noRoom}
 use Rattle.program.specs.Faults.{Found, fault, sound, faults}
+use Rattle.program.proofs.FaultNumbers.{fault-number}
 use Rattle.text.specs.Name.{nameBytes}
-use Rattle.table.proofs.FaultNumbers.{fault-number}
 use Rattle.reader.specs.Table.{Read, wrong, right, next}
 use Rattle.writer.specs.Names.{isSound, eachName, namesOf}
 use Rattle.writer.specs.Write.{textOf, written, writeOf, roomFor, answerOf, replyOf}

@@ -9,7 +9,6 @@ pub mod ComputedLaws
 pub mod ModesComputed
 pub mod Samples
 pub mod NoClauses
-pub mod FaultNumbers
 pub mod Promise
 pub mod Keys
 pub mod ShapeVariables

@@ -6,8 +6,6 @@ use mathlib.Core.List.{List, [], _∷_, _++_, map, List·Memᴰ, List·Memᴰ·h
 use Rattle.program.specs.Program.{Nth, here, there}
 use Rattle.program.specs.Shapes.{with}
 use Rattle.program.proofs.ShapeLaws.{with-keeps, with-has, has-with}
--- what crates above cite from here
-unfoldable pub use Rattle.program.proofs.ShapeLaws.{member-decided}
 
 -- what f lists for each element, one after the other
 abbrev pub each : {A B : Type 0} → List A → (A → List B) → List B

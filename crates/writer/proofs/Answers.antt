@@ -12,7 +12,7 @@ use Rattle.program.specs.Program.{Program}
 use Rattle.program.specs.Faults.{Found, fault, sound, faults, replyOf as scanReply}
 use Rattle.program.specs.Reply.{tooSoon, follows, badName}
 use Rattle.program.specs.declared.reply.Reply.{Reply}
-use Rattle.table.proofs.FaultNumbers.{fault-number}
+use Rattle.program.proofs.FaultNumbers.{fault-number}
 use Rattle.text.specs.Name.{nameBytes}
 use Rattle.text.specs.Room.{inRoom}
 use Rattle.text.specs.Put.{Put}

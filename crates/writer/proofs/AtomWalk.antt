@@ -7,10 +7,11 @@ use lib.ListN.{length, getD, take, drop, length-drop}
 use lib.Seq.{drop-drop}
 use Rattle.terms.specs.Term.{Term}
 use Rattle.terms.specs.Cells.{enc, encs, Run}
+use Rattle.terms.proofs.Places.{part-from}
 use Rattle.program.specs.Within.{after, modesOf}
 use Rattle.text.specs.Line.{tab}
 use Rattle.directory.specs.From.{Atom-from, Goal-from}
-use Rattle.directory.proofs.Cuts.{tail-part, word-behind}
+use Rattle.directory.proofs.Cuts.{word-behind}
 use Rattle.directory.proofs.AtomsFrom.{atom-within, atom-predicate}
 use Rattle.directory.proofs.GoalWalk.{count-within, modes-within, modes-are}
 use Rattle.writer.specs.Tokens.{symbolToken, argumentToken, atomTokens, behindTabs}
@@ -26,7 +27,7 @@ module _ (words : List ℕ) (at : ℕ) (predicates functions : List ℕ) (a : At
       record {
         terms = a .sound .arguments;
         rest = a .rest;
-        cut = tail-part words (at + 1) ∙ word-behind words at (a .sound .predicate) (encs (a .sound .arguments) ++ a .rest) (a .cut ∙ ap (λ (t : Term). enc t ++ a .rest) (a .sound .is));
+        cut = part-from words (at + 1) ∙ word-behind words at (a .sound .predicate) (encs (a .sound .arguments) ++ a .rest) (a .cut ∙ ap (λ (t : Term). enc t ++ a .rest) (a .sound .is));
         keeps = a .sound .keeps;
         many = a .sound .arity ∙ sym (e ∙ ap (λ (q : ℕ). getD predicates q 0) (atom-predicate words at predicates functions a));
       }
@@ -40,10 +41,10 @@ module _ (words : List ℕ) (at : ℕ) (predicates functions : List ℕ) (a : At
 
   -- the place behind so many cells of the tail
   pub tail-within : (k : ℕ) → k ≤ length tail → at + 1 + k ≤ length words
-  tail-within k h = omega (arith, atom-within words at predicates functions a, ap length (tail-part words (at + 1)), length-drop (at + 1) words)
+  tail-within k h = omega (arith, atom-within words at predicates functions a, ap length (part-from words (at + 1)), length-drop (at + 1) words)
 
   pub tail-behind : (k : ℕ) → drop k tail ≡ a .rest → drop (at + 1 + k) words ≡ a .rest
-  tail-behind k e = sym (drop-drop k (at + 1) words) ∙ ap (drop k) (sym (tail-part words (at + 1))) ∙ e
+  tail-behind k e = sym (drop-drop k (at + 1) words) ∙ ap (drop k) (sym (part-from words (at + 1))) ∙ e
 
 module _ (words : List ℕ) (at : ℕ) (predicates functions : List ℕ) (a : Goal-from words at predicates functions) (end : ℕ) (e : end ≡ at + length (enc (a .goal))) where
   -- behind the atom stands the variable count

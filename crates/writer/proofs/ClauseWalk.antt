@@ -8,8 +8,9 @@ use Rattle.terms.specs.Term.{Term}
 use Rattle.terms.specs.Cells.{enc}
 use Rattle.program.specs.Program.{Nth, Clause}
 use Rattle.program.specs.Within.{more, encodeAtoms, encodeClauses}
+use Rattle.program.proofs.Nths.{below-nth}
 use Rattle.directory.specs.From.{Atom-from, Atoms-from, Clause-from, Clauses-from}
-use Rattle.directory.proofs.Cuts.{word-behind, nth-at, nth-drop, nth-take, each-nth}
+use Rattle.directory.proofs.Cuts.{word-behind, nth-drop, nth-take, each-nth}
 use Rattle.directory.proofs.ClauseWalk.{body-length}
 use Rattle.reader.specs.Keyword.{clause}
 use Rattle.writer.specs.Tokens.{atomTokens, atomsTokens, behindTabs, line}
@@ -36,7 +37,7 @@ atoms-append names n (t ∷ l) m =
 module _ (words : List ℕ) (start : ℕ) (predicates functions : List ℕ) (count : ℕ) (a : Atoms-from words start predicates functions count) (i at : ℕ)
     (l : To-come encodeAtoms words (a .atoms) (a .rest) i at) (h : i < count) where
   abbrev atomAt : (t : Term) × Nth (a .atoms) i t
-  atomAt = nth-at (a .atoms) i (let e = a .many in omega arith)
+  atomAt = below-nth (a .atoms) i (let e = a .many in omega arith)
 
   -- the atom that comes next
   abbrev pub next-atom : Atom-from words at predicates functions
@@ -81,7 +82,7 @@ clauses-append names n (c ∷ l) m =
 module _ (words : List ℕ) (start : ℕ) (predicates functions : List ℕ) (count : ℕ) (a : Clauses-from words start predicates functions count) (i at : ℕ)
     (l : To-come encodeClauses words (a .clauses) (a .rest) i at) (h : i < count) where
   abbrev clauseAt : (c : Clause) × Nth (a .clauses) i c
-  clauseAt = nth-at (a .clauses) i (let e = a .many in omega arith)
+  clauseAt = below-nth (a .clauses) i (let e = a .many in omega arith)
 
   -- the clause that comes next
   abbrev pub next-clause : Clause-from words at predicates functions
