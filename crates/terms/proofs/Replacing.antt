@@ -91,35 +91,16 @@ pub record Halfway (x gained : ℕ) (sets₀ sets : List ℕ) (y : ℕ) : Type 0
   pub passed : (w : ℕ) → w < y → Replaced x gained (getD sets₀ w 0) (getD sets w 0)
   pub to-come : (w : ℕ) → y ≤ w → getD sets w 0 ≡ getD sets₀ w 0
 
--- one set more, that had x
-pub halfway-with : (x gained : ℕ) (sets₀ sets : List ℕ) (y : ℕ) → y < 32 → Halfway x gained sets₀ sets y → Has (getD sets y 0) x
-    → Halfway x gained sets₀ (set sets y (bitOr (getD sets y 0 - 2 ^ x) gained)) (y + 1)
-halfway-with x gained sets₀ sets y l h b =
+-- one set more
+pub halfway-more : (x gained : ℕ) (sets₀ sets : List ℕ) (y new : ℕ) → y < 32 → Halfway x gained sets₀ sets y → Replaced x gained (getD sets y 0) new
+    → Halfway x gained sets₀ (set sets y new) (y + 1)
+halfway-more x gained sets₀ sets y new l h r =
     record {
-      as-many = length-set sets y _ ∙ h .as-many;
+      as-many = length-set sets y new ∙ h .as-many;
       passed = λ w q. at w q (ℕ-discrete w y);
-      to-come = λ w q. getD-set-other sets y w _ 0 (λ e. omega arith) ∙ h .to-come w (omega arith);
+      to-come = λ w q. getD-set-other sets y w new 0 (λ e. omega arith) ∙ h .to-come w (omega arith);
     }
   where
-    new : ℕ
-    new = bitOr (getD sets y 0 - 2 ^ x) gained
-
-    at : (w : ℕ) → w < y + 1 → Dec (w ≡ y) → Replaced x gained (getD sets₀ w 0) (getD (set sets y (bitOr (getD sets y 0 - 2 ^ x) gained)) w 0)
-    at w q (yes e) =
-        rw (e, getD-set-same sets y (bitOr (getD sets y 0 - 2 ^ x) gained) 0 (omega (arith, h .as-many)), ← h .to-come y (omega arith))
-        (replaced-with x gained (getD sets y 0) b)
-    at w q (no n) = rw (getD-set-other sets y w (bitOr (getD sets y 0 - 2 ^ x) gained) 0 n) (h .passed w (omega arith))
-
--- one set more, that did not have x
-pub halfway-without : (x gained : ℕ) (sets₀ sets : List ℕ) (y : ℕ) → y < 32 → Halfway x gained sets₀ sets y → (Has (getD sets y 0) x → ⊥)
-    → Halfway x gained sets₀ sets (y + 1)
-halfway-without x gained sets₀ sets y l h b =
-    record {
-      as-many = h .as-many;
-      passed = λ w q. at w q (ℕ-discrete w y);
-      to-come = λ w q. h .to-come w (omega arith);
-    }
-  where
-    at : (w : ℕ) → w < y + 1 → Dec (w ≡ y) → Replaced x gained (getD sets₀ w 0) (getD sets w 0)
-    at w q (yes e) = rw (e, ← h .to-come y (omega arith)) (replaced-without x gained (getD sets y 0) b)
-    at w q (no n) = h .passed w (omega arith)
+    at : (w : ℕ) → w < y + 1 → Dec (w ≡ y) → Replaced x gained (getD sets₀ w 0) (getD (set sets y new) w 0)
+    at w q (yes e) = rw (e, getD-set-same sets y new 0 (omega (arith, h .as-many)), ← h .to-come y (omega arith)) r
+    at w q (no n) = rw (getD-set-other sets y w new 0 n) (h .passed w (omega arith))

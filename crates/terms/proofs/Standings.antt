@@ -14,7 +14,8 @@ use Rattle.terms.specs.Walk.{cellsOf}
 use Rattle.terms.specs.Store.{secondAtom, cellsAt, termsAt, variableAt, firstTerm}
 use Rattle.terms.specs.Unifying.{CellAt, baseOf}
 use Rattle.terms.proofs.Runs.{run-terms}
-use Rattle.terms.proofs.Steps.{run-cell, run-within}
+use Rattle.terms.proofs.Steps.{run-cell, run-within, variable-one}
+use Rattle.terms.proofs.Walks.{Union, union-one}
 use Rattle.terms.proofs.Places.{cells-first, cells-second}
 
 -- an atom's terms in the store's numbering
@@ -85,6 +86,15 @@ base-small p = go (decLt p secondAtom)
     go : Dec (p < secondAtom) → baseOf p ≤ 16
     go (yes h) = rw (lt-ltb p secondAtom h) (omega arith)
     go (no h) = rw (le-ltb p secondAtom (omega arith)) (omega arith)
+
+-- the set of a variable's cell at a place is that of the term there
+pub set-alone : (F a b sets : List ℕ) (p c x : ℕ) → Run F (cellsAt a b p) 1 → c ≡ getD (cellsAt a b p) 0 0 → firstVariable ≤ c → x ≡ variableAt p c
+    → Union (take (cellsOf F (cellsAt a b p) 1) (cellsAt a b p)) (baseOf p) sets (getD sets x 0)
+set-alone F a b sets p c x r e l i =
+    let h : firstVariable ≤ getD (cellsAt a b p) 0 0 = rw (← e) l in
+    let n : x ≡ baseOf p + (getD (cellsAt a b p) 0 0 - firstVariable) =
+    i ∙ ap (variableAt p) (omega arith) ∙ variable-number p (getD (cellsAt a b p) 0 0 - firstVariable) in
+    rw (variable-one F (cellsAt a b p) r h, n) (union-one (cellsAt a b p) (baseOf p) sets (run-cell F (cellsAt a b p) 1 (λ z. omega arith) r) h)
 
 -- n terms stand at a place: the first term, and the others where it ends
 pub record Next (F a b : List ℕ) (p n : ℕ) : Type 0 where

@@ -148,3 +148,7 @@ module _ (arities : List ℕ) where
           (record { terms = cons (var v) ts; rest = rest; cut = ap₂ _∷_ e q; keeps = (b, k); many = sym m }) in
           rw (e₁, e₂) (omega arith)
       go (function us ts rest b d a q k k′ m) = absurd (omega arith)
+
+  -- a variable's cell is a term by itself
+  pub variable-one : (cells : List ℕ) → Run arities cells 1 → firstVariable ≤ getD cells 0 0 → cellsOf arities cells 1 ≡ 1
+  variable-one cells r l = sym (variable-cells cells 1 (λ e. omega arith) r l)

@@ -1,10 +1,10 @@
 -- The walks for variables, a cell at a time: what the first cell adds to what the cells behind it have.
 use Prim.Native.Nat.{ℕ, suc, _+_, _-_, _^_, _≤_, _<_}
 use mathlib.Core.Path.{_≡_, refl}
-use mathlib.Core.Logic.{_⊎_, inl, inr, _↔_}
+use mathlib.Core.Logic.{_⊎_, inl, inr, _↔_, ⊎-elim}
 use mathlib.Core.List.{List, [], _∷_}
 use native.Mathlib.Omega.{arith}
-use lib.ListN.{length, getD}
+use lib.ListN.{length, getD, take}
 use lib.Bits.{bitOr}
 use Rattle.terms.specs.Cells.{firstVariable}
 use Rattle.terms.specs.Mask.{Has}
@@ -108,6 +108,16 @@ union-variable cells base sets later h l p z = (
     back : (v : ℕ) → InRun v (behind cells) ⊎ (v ≡ x) → Has (getD sets (base + v) 0) z → Has later z ⊎ Has (getD sets (base + x) 0) z
     back v (inl o) b = inl (p z .1 (v, o, b))
     back v (inr e) b = inr (rw e at b)
+
+-- of a variable's cell alone it is that variable's set
+pub union-one : (cells : List ℕ) (base : ℕ) (sets : List ℕ) → 0 < length cells → firstVariable ≤ getD cells 0 0
+    → Union (take 1 cells) base sets (getD sets (base + (getD cells 0 0 - firstVariable)) 0)
+union-one [] base sets h l = absurd (omega arith)
+union-one (c ∷ cs) base sets h l =
+    λ z. (λ b. (c - firstVariable, inl (omega arith), b), λ o. ⊎-elim (λ e. at z (o .0) e (o .2)) absurd (o .1))
+  where
+    at : (z v : ℕ) → c ≡ firstVariable + v → Has (getD sets (base + v) 0) z → Has (getD sets (base + (c - firstVariable)) 0) z
+    at z v e b = let q : c - firstVariable ≡ v = omega arith in rw q b
 
 -- every variable of a run is in a set: the first cell's, and those behind it
 pub inside-variable : (cells : List ℕ) (set : ℕ) → 0 < length cells → firstVariable ≤ getD cells 0 0 → Has set (getD cells 0 0 - firstVariable)

@@ -6,11 +6,13 @@ use crate::walk::terms_end;
 use crate::walk::union_of;
 use crate::walk::wide;
 ghost use mathlib.Core.Path.{_≡_};
+ghost use mathlib.Core.Logic.{_↔_};
 ghost use Prim.Native.Nat.{ℕ, _+_, _-_, _≤_, _<_};
 ghost use lib.ListN.{length, getD, take};
 ghost use Rattle.terms.specs.Term.{var, nil, cons};
 ghost use Rattle.terms.specs.Cells.{Run};
-ghost use Rattle.terms.specs.Walk.{cellsOf};
+ghost use Rattle.terms.specs.Mask.{Has};
+ghost use Rattle.terms.specs.Walk.{cellsOf, InSets};
 ghost use Rattle.terms.specs.Store.{cellsAt, termsAt, variableAt, firstTerm};
 ghost use Rattle.terms.specs.Unified.{BothAtoms, Unification};
 ghost use Rattle.terms.specs.Unifying.{lookAt, CellAt, baseOf, Bindable, Comparable, Compared, Outcome, AllReplaced};
@@ -99,12 +101,16 @@ fn replace(sets: &mut [u32; 32], x: usize, gained: u32)
     requires { ⌜ (x < 32) × (length (now sets) ≡ 32) ⌝ }
     ensures { λ _. ⌜ AllReplaced x gained (now (sets .entry)) (now (sets .exit)) ⌝ }
 {
+    let bit = only(x);
     let mut y = 0;
     while y < VARIABLES {
         let set = sets[y];
-        if has(set, x) {
-            sets[y] = (set - only(x)) | gained;
-        }
+        let replaced = if has(set, x) {
+            (set - bit) | gained
+        } else {
+            set
+        };
+        sets[y] = replaced;
         y += 1;
     }
 }
@@ -117,6 +123,21 @@ fn base_of(place: usize) -> usize
         return 0;
     }
     FIRST_VARIABLES
+}
+
+// The set of what the term at a place stands for: a variable's own, or the union of those of the term's variables.
+fn set_at<'a>(a: &'a [u16], b: &'a [u16], functions: &[u16], place: usize, sets: &[u32; 32]) -> u32
+    requires { ⌜ (Run (now functions) (cellsAt (now a) (now b) place) 1) × (place < 128) × (length (now a) ≤ 32) ⌝ }
+    ensures { λ r. ⌜ ((z : ℕ) → Has r z ↔ InSets (take (cellsOf (now (functions .entry)) (cellsAt (now (a .entry)) (now (b .entry)) place) 1)
+        (cellsAt (now (a .entry)) (now (b .entry)) place)) (baseOf place) (now (sets .entry)) z) ⌝ }
+{
+    let cell = cell_at(a, b, place);
+    if FIRST_VARIABLE <= cell {
+        let v = variable_at(cell, place);
+        return sets[v];
+    }
+    let run = resolve(a, b, functions, place);
+    union_of(run, base_of(place), sets)
 }
 
 // Binds the unbound variable x to the term at a place; false where x occurs in what that stands for.
@@ -133,9 +154,7 @@ fn bind<'a>(
     ensures { λ r. ⌜ Outcome (now (functions .entry)) (now (a .entry)) (now (b .entry)) (now (places .entry)) (now (sets .entry))
         (cons (var x) nil) (cons (firstTerm (termsAt (now (functions .entry)) (now (a .entry)) (now (b .entry)) place)) nil) r (now (places .exit)) (now (sets .exit)) ⌝ }
 {
-    let run = resolve(a, b, functions, place);
-    let base = base_of(place);
-    let gained = union_of(run, base, sets);
+    let gained = set_at(a, b, functions, place, sets);
     if has(gained, x) {
         return false;
     }
@@ -144,11 +163,14 @@ fn bind<'a>(
     true
 }
 
-// Where the next term stands behind the one at a place.
+// Where the next term stands behind the one at a place: a variable is one cell.
 fn after<'a>(a: &'a [u16], b: &'a [u16], functions: &[u16], place: usize) -> usize
     requires { ⌜ (Run (now functions) (cellsAt (now a) (now b) place) 1) × (place < 128) × (length (cellsAt (now a) (now b) place) ≤ 32) ⌝ }
     ensures { λ r. ⌜ r ≡ place + cellsOf (now (functions .entry)) (cellsAt (now (a .entry)) (now (b .entry)) place) 1 ⌝ }
 {
+    if FIRST_VARIABLE <= cell_at(a, b, place) {
+        return place + 1;
+    }
     let run = resolve(a, b, functions, place);
     place + run.len()
 }
