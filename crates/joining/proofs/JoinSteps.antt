@@ -1,49 +1,99 @@
 -- The steps of the loops over answers and over cont rows: what they have given so far, and that the rules reach it.
-use Prim.Native.Nat.{ℕ, suc, _+_, _-_, _*_, _≤_, _<_}
+use Prim.Native.Nat.{ℕ, suc, _+_, _-_, _*_, _/_, _%_, _≤_, _<_}
 use native.Mathlib.Omega.{arith}
 use mathlib.Core.Path.{_≡_, refl, sym, subst, _∙_}
 use mathlib.Core.Bool.{Bool}
 use mathlib.Core.Logic.{_⊎_, inl, inr, ⊎-elim, _↔_}
 use mathlib.Core.List.{List}
-use lib.ListN.{length, getD}
+use lib.ListN.{length, getD, replicate}
+use lib.Dec.{T}
 use Rattle.terms.specs.Mask.{Has}
+use Rattle.terms.proofs.Masks.{has-decided}
 use Rattle.marks.specs.Modes.{modes, Together, Kept}
 use Rattle.rows.specs.Rows.{rowSize, slotAt, maskAt, beforeAt, keysOf}
 use Rattle.rows.proofs.Adding.{same-mask}
-use Rattle.rows.specs.MaskSet.{setWords, Inserted}
+use Rattle.rows.specs.MaskSet.{setWords, InSet, Inserted}
+use Rattle.rows.proofs.MaskSets.{none-in-zeros}
 use Rattle.table.specs.Rules.{Reached}
 use Rattle.table.specs.RoundKeys.{Keyed}
 use Rattle.steps.specs.Situation.{Place}
 use Rattle.steps.specs.Steps.{RowsIn, Writable, Grew, Stepped, Emitted}
 use Rattle.steps.specs.Heads.{Marked}
-use Rattle.joining.specs.Joined.{JoinedWith, Due, ContMarks, RowsOf, KeptOf, Reaching, AnswersThere, ContsAsked, ContsThere}
-use Rattle.steps.proofs.Stepping.{keys-stay, grew-none, stepped-within}
+use Rattle.joining.specs.Joined.{JoinedWith, Had, Due, ContMarks, RowsOf, KeptOf, JoinAsked, AnswersThere, ContsAsked, ContsThere}
+use Rattle.steps.proofs.Stepping.{keys-stay, grew-none, grew-must, stepped-within}
 use Rattle.steps.proofs.MarkedSets.{marked-same, marked-none, marked-one, marked-then}
 use Rattle.joining.proofs.Joining.{joined-none, joined-more, joined-fewer, due-new, due-old, marks-begin, next-falls, next-own, next-marks, rows-more, rows-one, kept-split, kept-one}
 
-module _ {dir order table : List ℕ} {count rows j : ℕ} (mask : ℕ) (answers : List ℕ) (upto : ℕ) (w : Reaching dir order table count rows j (JoinedWith mask answers upto)) (buckets : List ℕ) (round room n : ℕ) where
+-- one answer more was put into the set, whether it was there or not
+pub had-more : (seen₀ seen seen′ : List ℕ) (mask : ℕ) (answers : List ℕ) (x N : ℕ) (new : Bool) → x < length answers → Together mask (getD answers x 0) N
+    → Inserted seen seen′ N new → ((q : ℕ) → InSet seen q → Had seen₀ mask answers x q) → (q : ℕ) → InSet seen′ q → Had seen₀ mask answers (x + 1) q
+had-more seen₀ seen seen′ mask answers x N new less joined ins had q h =
+    ⊎-elim
+    (λ o. ⊎-elim inl (λ m. inr (joined-more mask answers x N less joined q .1 (inl m))) (had q o))
+    (λ e. inr (joined-more mask answers x N less joined q .1 (inr e)))
+    (ins .members q .0 h)
+
+-- marks made by the answers passed are made by all
+pub had-all : (seen : List ℕ) (mask : ℕ) (answers : List ℕ) (x upto : ℕ) (seen′ : List ℕ) → x < upto → ((q : ℕ) → InSet seen′ q → Had seen mask answers (x + 1) q)
+    → (q : ℕ) → InSet seen′ q → Had seen mask answers upto q
+had-all seen mask answers x upto seen′ less had q h = ⊎-elim inl (λ m. inr (joined-fewer mask answers (x + 1) upto q (omega arith) m)) (had q h)
+
+-- what was not put in was there
+pub was-there : (seen seen′ : List ℕ) (N : ℕ) (new : Bool) → Inserted seen seen′ N new → (T new → ⊥) → InSet seen N
+was-there seen seen′ N new ins old = at (has-decided (getD seen (N / 16) 0) (N % 16))
+  where
+    at : Dec (InSet seen N) → InSet seen N
+    at (yes h) = h
+    at (no o) = absurd (old (ins .was-new .1 o))
+
+module _ {dir order table answers seen : List ℕ} {count rows j mask upto n : ℕ} (w : JoinAsked dir order table answers seen count rows j mask upto n) (buckets : List ℕ) (round room : ℕ) where
+  -- the rows of the marks in the set, and of those that the first x answers make, are there
+  abbrev pub AnswersGrew : ℕ → ℕ → List ℕ → List ℕ → Type 0
+  AnswersGrew x n′ table′ buckets′ =
+      Grew (w .reaching .place .p) (keysOf table rows) round room n table buckets (RowsOf (w .reaching .place .p) (w .reaching .place .k) (w .reaching .place .i) (Had seen mask answers x)) n′ table′ buckets′
+
   -- no answer yet
-  pub answers-begin : Writable table buckets n room
-      → Grew (w .place .p) (keysOf table rows) round room n table buckets (RowsOf (w .place .p) (w .place .k) (w .place .i) (JoinedWith mask answers 0)) n table buckets
+  pub answers-begin : Writable table buckets n room → AnswersGrew 0 n table buckets
   answers-begin writable =
-      grew-none (w .place .p) (keysOf table rows) round room n table buckets _ writable (λ key (N, m, _). absurd (joined-none mask answers N m))
+      grew-none (w .reaching .place .p) (keysOf table rows) round room n table buckets _ writable
+      (λ key (N, m, e). ⊎-elim (λ s. w .seen-there key (N, s, e)) (λ o. absurd (joined-none mask answers N o)) m)
+
+  -- all answers
+  pub answers-end : (x n′ : ℕ) (table′ buckets′ : List ℕ) → x ≡ upto → AnswersGrew x n′ table′ buckets′
+      → Grew (w .reaching .place .p) (keysOf table rows) round room n table buckets (RowsOf (w .reaching .place .p) (w .reaching .place .k) (w .reaching .place .i) (JoinedWith mask answers upto)) n′ table′ buckets′
+  answers-end x n′ table′ buckets′ e =
+      grew-must (w .reaching .place .p) (keysOf table rows) round room n n′ table buckets table′ buckets′ _ _ (λ key (N, m, k). (N, inr (rw e m), k))
 
   -- one answer more
-  pub answer-emitted : (x N n′ n″ : ℕ) (table′ buckets′ table″ buckets″ : List ℕ) → rows ≤ n → x < upto → upto ≤ length answers → Together mask (getD answers x 0) N
-      → Grew (w .place .p) (keysOf table rows) round room n table buckets (RowsOf (w .place .p) (w .place .k) (w .place .i) (JoinedWith mask answers x)) n′ table′ buckets′
-      → ((v : Place dir order count j) → Reached modes (v .p) (RowsIn (v .p) (keysOf table′ rows)) (v .k) (v .i) N
-      → Stepped (v .p) (keysOf table′ rows) round room n′ table′ buckets′ (Keyed (v .p) (Emitted (v .p) (v .k) (v .i) N)) n″ table″ buckets″)
-      → Stepped (w .place .p) (keysOf table rows) round room n table buckets (RowsOf (w .place .p) (w .place .k) (w .place .i) (JoinedWith mask answers (x + 1))) n″ table″ buckets″
-  answer-emitted x N n′ n″ table′ buckets′ table″ buckets″ enough less there joined g emitted =
-      let p = w .place .p in
-      let same = keys-stay table table′ n rows enough (g .same-rows) in
-      let more = joined-more mask answers x N (omega arith) joined in
-      let reached = w .reached N (joined-fewer mask answers (x + 1) upto N (omega arith) (more N .1 (inr refl))) in
-      let now = emitted (w .place) (subst (λ (ks : List ℕ). Reached modes p (RowsIn p ks) (w .place .k) (w .place .i) N) (sym same) reached) in
-      rows-more p (keysOf table rows) round room (w .place .k) (w .place .i) n n′ n″ table buckets table′ buckets′ table″ buckets″
-      (JoinedWith mask answers x) (λ N′. N′ ≡ N) (JoinedWith mask answers (x + 1)) (λ N′. more N′ .0) g
-      (rows-one p (keysOf table rows) round room (w .place .k) (w .place .i) n′ n″ table′ buckets′ table″ buckets″ N
-      (subst (λ (ks : List ℕ). Stepped p ks round room n′ table′ buckets′ (Keyed p (Emitted p (w .place .k) (w .place .i) N)) n″ table″ buckets″) same now))
+  module _ (x N n′ : ℕ) (table′ buckets′ : List ℕ) (less : x < upto) (joined : Together mask (getD answers x 0) N) (g : AnswersGrew x n′ table′ buckets′) where
+    more : (N′ : ℕ) → JoinedWith mask answers (x + 1) N′ ↔ (JoinedWith mask answers x N′ ⊎ (N′ ≡ N))
+    more = joined-more mask answers x N (omega (arith, w .most)) joined
+
+    had-split : (N′ : ℕ) → Had seen mask answers (x + 1) N′ → Had seen mask answers x N′ ⊎ (N′ ≡ N)
+    had-split N′ = ⊎-elim (λ s. inl (inl s)) (λ m. ⊎-elim (λ o. inl (inr o)) inr (more N′ .0 m))
+
+    -- its marks gave their rows before
+    pub answer-had : Had seen mask answers x N → AnswersGrew (x + 1) n′ table′ buckets′
+    answer-had had =
+        grew-must (w .reaching .place .p) (keysOf table rows) round room n n′ table buckets table′ buckets′ _ _
+        (λ key (N′, m, k). (N′, ⊎-elim (λ o. o) (λ e. rw e had) (had-split N′ m), k)) g
+
+    -- its marks give their rows now
+    pub answer-emitted : (n″ : ℕ) (table″ buckets″ : List ℕ) → rows ≤ n
+        → ((v : Place dir order count j) → Reached modes (v .p) (RowsIn (v .p) (keysOf table′ rows)) (v .k) (v .i) N
+        → Stepped (v .p) (keysOf table′ rows) round room n′ table′ buckets′ (Keyed (v .p) (Emitted (v .p) (v .k) (v .i) N)) n″ table″ buckets″)
+        → Stepped (w .reaching .place .p) (keysOf table rows) round room n table buckets
+        (RowsOf (w .reaching .place .p) (w .reaching .place .k) (w .reaching .place .i) (Had seen mask answers (x + 1))) n″ table″ buckets″
+    answer-emitted n″ table″ buckets″ enough emitted =
+        let v = w .reaching .place in
+        let p = v .p in
+        let same = keys-stay table table′ n rows enough (g .same-rows) in
+        let reached = w .reaching .reached N (joined-fewer mask answers (x + 1) upto N (omega arith) (more N .1 (inr refl))) in
+        let now = emitted v (subst (λ (ks : List ℕ). Reached modes p (RowsIn p ks) (v .k) (v .i) N) (sym same) reached) in
+        rows-more p (keysOf table rows) round room (v .k) (v .i) n n′ n″ table buckets table′ buckets′ table″ buckets″
+        (Had seen mask answers x) (λ N′. N′ ≡ N) (Had seen mask answers (x + 1)) had-split g
+        (rows-one p (keysOf table rows) round room (v .k) (v .i) n′ n″ table′ buckets′ table″ buckets″ N
+        (subst (λ (ks : List ℕ). Stepped p ks round room n′ table′ buckets′ (Keyed p (Emitted p (v .k) (v .i) N)) n″ table″ buckets″) same now))
 
 -- one answer more into the set
 pub answer-marked : (mask : ℕ) (answers : List ℕ) (there x N K : ℕ) (new : Bool) (found found′ found″ : List ℕ) → x < length answers → Together mask (getD answers x 0) N
@@ -71,25 +121,27 @@ module _ (answers : List ℕ) (since fresh all r upto : ℕ) (there : AnswersThe
 
 -- the walk over the cont rows has come to the link: the rows behind it have given theirs
 pub record ContsWalk {dir order table answers : List ℕ} {count rows newest since fresh all j : ℕ} (w : ContsAsked dir order table answers count rows newest since fresh all j)
-    (buckets : List ℕ) (round room n link n′ : ℕ) (table′ buckets′ : List ℕ) : Type 0 where
+    (buckets : List ℕ) (round room n link n′ : ℕ) (table′ buckets′ seen : List ℕ) : Type 0 where
   pub within : link ≤ rows
   pub own : (r : ℕ) → suc r ≡ link → slotAt table r ≡ w .slot
   pub grew : Grew (w .reaching .place .p) (keysOf table rows) round room n table buckets
       (RowsOf (w .reaching .place .p) (w .reaching .place .k) (w .reaching .place .i) (ContMarks table answers (w .slot) rows since fresh all link)) n′ table′ buckets′
+  pub had : (N : ℕ) → InSet seen N → ContMarks table answers (w .slot) rows since fresh all link N
 
 module _ {dir order table answers : List ℕ} {count rows newest since fresh all j : ℕ} (w : ContsAsked dir order table answers count rows newest since fresh all j)
     (buckets : List ℕ) (round room n : ℕ) where
-  pub conts-begin : Writable table buckets n room → ContsWalk w buckets round room n newest n table buckets
-  conts-begin writable =
+  pub conts-begin : (seen : List ℕ) → Writable table buckets n room → seen ≡ replicate setWords 0 → ContsWalk w buckets round room n newest n table buckets seen
+  conts-begin seen writable empty =
       record {
         within = w .chain .head .within;
         own = w .chain .head .own;
         grew =
             grew-none (w .reaching .place .p) (keysOf table rows) round room n table buckets _ writable
             (λ key (N, m, _). absurd (marks-begin table answers (w .slot) rows newest since fresh all (w .chain) N m));
+        had = λ N h. absurd (none-in-zeros setWords N (rw empty at h));
       }
 
-  module _ (enough : rows ≤ n) (link n′ : ℕ) (table′ buckets′ : List ℕ) (walk : ContsWalk w buckets round room n link n′ table′ buckets′) (more : 0 < link)
+  module _ (enough : rows ≤ n) (link n′ : ℕ) (table′ buckets′ seen : List ℕ) (walk : ContsWalk w buckets round room n link n′ table′ buckets′ seen) (more : 0 < link)
       (upto mask : ℕ) (turn : Turn since fresh all (link - 1) upto) (is : mask ≡ maskAt table′ (link - 1)) where
     mask-was : mask ≡ maskAt table (link - 1)
     mask-was = is ∙ same-mask table table′ n (walk .grew .same-rows) (link - 1) (omega (arith, walk .within))
@@ -104,32 +156,38 @@ module _ {dir order table answers : List ℕ} {count rows newest since fresh all
         (λ d. inr (subst (λ (x : ℕ). JoinedWith x answers upto N) (sym mask-was) (turn-due answers since fresh all (link - 1) upto (w .answers-there) turn (maskAt table (link - 1)) N .0 d)))
         (next-marks table answers (w .slot) rows newest since fresh all (w .chain) link (walk .within) (walk .own) more N .0 m)
 
-    joined-there : (N : ℕ) → JoinedWith mask answers upto N → ContMarks table answers (w .slot) rows since fresh all 0 N
-    joined-there N m =
-        let d = turn-due answers since fresh all (link - 1) upto (w .answers-there) turn (maskAt table (link - 1)) N .1 (subst (λ (x : ℕ). JoinedWith x answers upto N) mask-was m) in
-        (link - 1, omega arith, omega (arith, walk .within), walk .own (link - 1) (omega arith), d)
+    joined-due : (N : ℕ) → JoinedWith mask answers upto N → Due (maskAt table (link - 1)) answers since fresh all (link - 1) N
+    joined-due N m = turn-due answers since fresh all (link - 1) upto (w .answers-there) turn (maskAt table (link - 1)) N .1 (subst (λ (x : ℕ). JoinedWith x answers upto N) mask-was m)
 
-    pub row-reaching : Reaching dir order table′ count rows j (JoinedWith mask answers upto)
-    row-reaching =
+    joined-there : (N : ℕ) → JoinedWith mask answers upto N → ContMarks table answers (w .slot) rows since fresh all 0 N
+    joined-there N m = (link - 1, omega arith, omega (arith, walk .within), walk .own (link - 1) (omega arith), joined-due N m)
+
+    pub row-asked : JoinAsked dir order table′ answers seen count rows j mask upto n′
+    row-asked =
         record {
-          place = w .reaching .place;
-          reached = λ N m.
-              let v = w .reaching .place in
-              subst (λ (ks : List ℕ). Reached modes (v .p) (RowsIn (v .p) ks) (v .k) (v .i) N) (sym same) (w .reaching .reached N (joined-there N m));
+          reaching =
+              record {
+                place = w .reaching .place;
+                reached = λ N m.
+                    let v = w .reaching .place in
+                    subst (λ (ks : List ℕ). Reached modes (v .p) (RowsIn (v .p) ks) (v .k) (v .i) N) (sym same) (w .reaching .reached N (joined-there N m));
+              };
+          seen-there = λ key (N, m, e). walk .grew .all key (N, walk .had N m, e);
+          most = turn-there answers since fresh all (link - 1) upto (w .answers-there) turn;
         }
 
     module _ (n″ : ℕ) (table″ buckets″ : List ℕ)
-        (emitted : (v : Reaching dir order table′ count rows j (JoinedWith mask answers upto))
-        → Stepped (v .place .p) (keysOf table′ rows) round room n′ table′ buckets′ (RowsOf (v .place .p) (v .place .k) (v .place .i) (JoinedWith mask answers upto)) n″ table″ buckets″) where
+        (emitted : (v : JoinAsked dir order table′ answers seen count rows j mask upto n′)
+        → Stepped (v .reaching .place .p) (keysOf table′ rows) round room n′ table′ buckets′ (RowsOf (v .reaching .place .p) (v .reaching .place .k) (v .reaching .place .i) (JoinedWith mask answers upto)) n″ table″ buckets″) where
       pub row-emitted : Stepped (w .reaching .place .p) (keysOf table rows) round room n table buckets
           (RowsOf (w .reaching .place .p) (w .reaching .place .k) (w .reaching .place .i) (ContMarks table answers (w .slot) rows since fresh all (beforeAt table (link - 1)))) n″ table″ buckets″
-      unfolding row-reaching
+      unfolding row-asked
       row-emitted =
           let v = w .reaching .place in
           rows-more (v .p) (keysOf table rows) round room (v .k) (v .i) n n′ n″ table buckets table′ buckets′ table″ buckets″
           (ContMarks table answers (w .slot) rows since fresh all link) (JoinedWith mask answers upto) (ContMarks table answers (w .slot) rows since fresh all (beforeAt table (link - 1)))
           split (walk .grew)
-          (subst (λ (ks : List ℕ). Stepped (v .p) ks round room n′ table′ buckets′ (RowsOf (v .p) (v .k) (v .i) (JoinedWith mask answers upto)) n″ table″ buckets″) same (emitted row-reaching))
+          (subst (λ (ks : List ℕ). Stepped (v .p) ks round room n′ table′ buckets′ (RowsOf (v .p) (v .k) (v .i) (JoinedWith mask answers upto)) n″ table″ buckets″) same (emitted row-asked))
 
       module _ (fits : n″ ≤ room) where
         grown : Grew (w .reaching .place .p) (keysOf table rows) round room n table buckets
@@ -145,13 +203,14 @@ module _ {dir order table answers : List ℕ} {count rows newest since fresh all
         pub row-falls : beforeAt table″ (link - 1) < link
         row-falls = rw next-was (next-falls table answers (w .slot) rows newest since fresh all (w .chain) link (walk .within) (walk .own) more)
 
-        pub row-done : ContsWalk w buckets round room n (beforeAt table″ (link - 1)) n″ table″ buckets″
-        row-done =
-            subst (λ (next : ℕ). ContsWalk w buckets round room n next n″ table″ buckets″) (sym next-was)
+        pub row-done : (seen′ : List ℕ) → ((N : ℕ) → InSet seen′ N → Had seen mask answers upto N) → ContsWalk w buckets round room n (beforeAt table″ (link - 1)) n″ table″ buckets″ seen′
+        row-done seen′ had =
+            subst (λ (next : ℕ). ContsWalk w buckets round room n next n″ table″ buckets″ seen′) (sym next-was)
             (record {
               within = omega (arith, walk .within, next-falls table answers (w .slot) rows newest since fresh all (w .chain) link (walk .within) (walk .own) more);
               own = next-own table answers (w .slot) rows newest since fresh all (w .chain) link (walk .within) (walk .own) more;
               grew = grown;
+              had = λ N h. next-marks table answers (w .slot) rows newest since fresh all (w .chain) link (walk .within) (walk .own) more N .1 (⊎-elim (λ s. inl (walk .had N s)) (λ m. inr (joined-due N m)) (had N h));
             })
 
 -- the same walk for marks on the head

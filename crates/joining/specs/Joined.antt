@@ -10,6 +10,7 @@ use Rattle.marks.specs.Modes.{modes, Together, Kept}
 use Rattle.program.specs.Program.{Program}
 use Rattle.rows.specs.Rows.{rowSize, slotAt, maskAt, beforeAt, keysOf}
 use Rattle.rows.specs.Chains.{Latest}
+use Rattle.rows.specs.MaskSet.{InSet}
 use Rattle.table.specs.Rules.{Reached}
 use Rattle.table.specs.RoundKeys.{Keyed}
 use Rattle.steps.specs.Steps.{RowsIn, Emitted}
@@ -47,6 +48,16 @@ pub record SlotChain (table : List ℕ) (slot rows newest : ℕ) : Type 0 where
 pub record Reaching (dir order table : List ℕ) (count rows j : ℕ) (Marked : ℕ → Type 0) : Type 0 where
   pub place : Place dir order count j
   pub reached : (N : ℕ) → Marked N → Reached modes (place .p) (RowsIn (place .p) (keysOf table rows)) (place .k) (place .i) N
+
+-- marks that the set has, or M with one of the first `upto` answers
+abbrev pub Had : List ℕ → ℕ → List ℕ → ℕ → ℕ → Type 0
+Had seen M answers upto N = InSet seen N ⊎ JoinedWith M answers upto N
+
+-- what is asked before marks M with the first `upto` answers give rows for body atom j: the rows of the marks in the set are among the first n
+pub record JoinAsked (dir order table answers seen : List ℕ) (count rows j M upto n : ℕ) : Type 0 where
+  pub reaching : Reaching dir order table count rows j (JoinedWith M answers upto)
+  pub seen-there : (key : ℕ) → RowsOf (reaching .place .p) (reaching .place .k) (reaching .place .i) (InSet seen) key → List·Memᴰ key (keysOf table n)
+  pub most : upto ≤ length answers
 
 -- the answers are there: the fresh ones first
 pub record AnswersThere (answers : List ℕ) (fresh all : ℕ) : Type 0 where

@@ -8,6 +8,7 @@ use marks::rows::together;
 use rows::maskset::insert;
 use rows::row::before_at;
 use rows::row::mask_at;
+use rows::zeros::zero;
 use steps::meet::order_of;
 use steps::place::CONTS;
 use steps::place::Round;
@@ -19,15 +20,15 @@ ghost use Prim.Native.Nat.{ℕ, suc, _+_, _*_, _≤_, _<_};
 ghost use lib.ListN.{length, replicate};
 ghost use Rattle.marks.specs.Modes.{modes};
 ghost use Rattle.rows.specs.Rows.{keysOf};
-ghost use Rattle.rows.specs.MaskSet.{setWords};
+ghost use Rattle.rows.specs.MaskSet.{setWords, InSet};
 ghost use Rattle.table.specs.NewRows.{NewGoesOn};
 ghost use Rattle.table.specs.RoundKeys.{Keyed};
 ghost use Rattle.steps.specs.Situation.{Situation, BodyOf, MiddleAsked, LastAsked};
 ghost use Rattle.steps.specs.Steps.{RowsIn, Writable, Stepped};
 ghost use Rattle.steps.specs.Heads.{HeadMark, Marked};
-ghost use Rattle.joining.specs.Joined.{JoinedWith, ContMarks, RowsOf, KeptOf, Reaching, AnswersThere, ContsAsked, ContsThere, Answered, BodyAsked};
+ghost use Rattle.joining.specs.Joined.{JoinedWith, Had, ContMarks, RowsOf, KeptOf, JoinAsked, AnswersThere, ContsAsked, ContsThere, Answered, BodyAsked};
 
-// One cont row's marks with the first `upto` answers: rows for body atom j.
+// One cont row's marks with the first `upto` answers: rows for body atom j, each union of marks once, since those in the set have given theirs.
 fn emit_joined(
     dir: &[u16],
     order: &[u8; 16],
@@ -40,30 +41,25 @@ fn emit_joined(
     answers: &[u16],
     upto: usize,
     j: usize,
+    seen: &mut [u16],
 ) -> usize
-    requires { ⌜ Reaching (now dir) (now order) (now table) count (at .rows) j (JoinedWith mask (now answers) upto) × (upto ≤ length (now answers))
-        × Writable (now table) (now buckets) n (at .room) × (at .rows ≤ n) ⌝ }
-    ensures { λ r. ⌜ ((w : Reaching (now (dir .entry)) (now (order .entry)) (now (table .entry)) count (at .rows) j (JoinedWith mask (now (answers .entry)) upto))
-        → Stepped (w .place .p) (keysOf (now (table .entry)) (at .rows)) (at .number) (at .room) n (now (table .entry)) (now (buckets .entry))
-        (RowsOf (w .place .p) (w .place .k) (w .place .i) (JoinedWith mask (now (answers .entry)) upto)) r (now (table .exit)) (now (buckets .exit))) ⌝ }
+    requires { ⌜ JoinAsked (now dir) (now order) (now table) (now answers) (now seen) count (at .rows) j mask upto n
+        × Writable (now table) (now buckets) n (at .room) × (at .rows ≤ n) × (length (now seen) ≡ setWords) ⌝ }
+    ensures { λ r. ⌜ ((N : ℕ) → InSet (now (seen .exit)) N → Had (now (seen .entry)) mask (now (answers .entry)) upto N)
+        × ((w : JoinAsked (now (dir .entry)) (now (order .entry)) (now (table .entry)) (now (answers .entry)) (now (seen .entry)) count (at .rows) j mask upto n)
+        → Stepped (w .reaching .place .p) (keysOf (now (table .entry)) (at .rows)) (at .number) (at .room) n (now (table .entry)) (now (buckets .entry))
+        (RowsOf (w .reaching .place .p) (w .reaching .place .k) (w .reaching .place .i) (JoinedWith mask (now (answers .entry)) upto)) r (now (table .exit)) (now (buckets .exit))) ⌝ }
 {
     let room = at.room;
     let mut rows = n;
     let mut i = 0;
     while i < upto {
-        rows = emit(
-            dir,
-            order,
-            count,
-            table,
-            buckets,
-            rows,
-            at,
-            j,
-            together(mask, answers[i]),
-        );
-        if room < rows {
-            return rows;
+        let both = together(mask, answers[i]);
+        if insert(seen, both) {
+            rows = emit(dir, order, count, table, buckets, rows, at, j, both);
+            if room < rows {
+                return rows;
+            }
         }
         i += 1;
     }
@@ -84,9 +80,10 @@ fn emit_conts(
     fresh: usize,
     all: usize,
     j: usize,
+    seen: &mut [u16],
 ) -> usize
     requires { ⌜ ContsAsked (now dir) (now order) (now table) (now answers) count (at .rows) newest (at .since) fresh all j
-        × Writable (now table) (now buckets) n (at .room) × (at .rows ≤ n) ⌝ }
+        × Writable (now table) (now buckets) n (at .room) × (at .rows ≤ n) × (now seen ≡ replicate setWords 0) ⌝ }
     ensures { λ r. ⌜ ((w : ContsAsked (now (dir .entry)) (now (order .entry)) (now (table .entry)) (now (answers .entry)) count (at .rows) newest (at .since) fresh all j)
         → Stepped (w .reaching .place .p) (keysOf (now (table .entry)) (at .rows)) (at .number) (at .room) n (now (table .entry)) (now (buckets .entry))
         (RowsOf (w .reaching .place .p) (w .reaching .place .k) (w .reaching .place .i)
@@ -115,6 +112,7 @@ fn emit_conts(
             answers,
             upto,
             j,
+            seen,
         );
         if room < rows {
             return rows;
@@ -232,7 +230,7 @@ pub fn middle_place<'a>(
     let to = from + wide(dir[BODY_CELLS + next]);
     let mut order = [0u8; 16];
     let count = order_of(&words[from..to], &mut order);
-    emit_conts(
+    let rows = emit_conts(
         dir,
         &order,
         count,
@@ -245,7 +243,10 @@ pub fn middle_place<'a>(
         fresh,
         all,
         next,
-    )
+        seen,
+    );
+    zero(seen);
+    rows
 }
 
 // One cont row's marks with the first `upto` answers, kept to the head's variables, into the set.

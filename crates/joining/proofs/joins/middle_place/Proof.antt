@@ -1,8 +1,11 @@
 -- `middle_place` meets its contract: what the place's cont rows make with the answers is what rule 2 makes with a new row, and goes on to the next
--- atom. Assumes nothing.
+-- atom; then nothing is seen. Assumes nothing.
+use Prim.Native.Nat.{ℕ}
 use native.Mathlib.Omega.{arith}
 use borrow.Author.Needs.{needs}
-use mathlib.Core.Path.{refl, sym, _∙_}
+use mathlib.Core.Path.{refl, sym, ap, _∙_}
+use lib.ListN.{length, replicate, length-replicate}
+use Rattle.rows.specs.MaskSet.{setWords}
 use Rattle.joining.proofs.PlaceSteps.{slot-there, next-few, next-run, no-next-rows, no-answers, conts-asked, next-rows}
 use Rattle.joining.proofs.joins.middle_place.Statement.{statement}
 use Rattle.joining.proofs.joins.middle_place.Tie as tie
@@ -93,16 +96,20 @@ order-of-requires c κs =
 
 emit-conts-requires : tie.Need-emit-conts-requires
 emit-conts-requires c κs =
-    let s = c .before .before .before .before .before .before .before .before .before .before .before .before .before .before .before .before .before .before .before .before .before .before .before .before .before .before .before .before .before .before in
+    let s = c .before .before .before .before .before .before .before .before .before .before .before .before .before .before .before .before .before .before .before .before .before .before .before .before .before .before .before .before .before .before .before in
     let m = s .pre .0 in
-    let listed = c .before .before .before .before .before .before .before .before .before .before .before .before .before .before .before .before .list-answers .ensures in
-    let newest = c .before .before .before .before .before .before .before .before .before .before .before .before .before .before .before .before .before .before .before .before .before .wide .ensures .0 in
-    let run = next-run (m .situation) (m .body) m _ _ (c .before .before .before .before .before .before .before .before .before .wide2 .ensures .0) (c .before .before .before .before .before .before .before .wide3 .ensures .0) .0 in
+    let listed = c .before .before .before .before .before .before .before .before .before .before .before .before .before .before .before .before .before .list-answers .ensures in
+    let newest = c .before .before .before .before .before .before .before .before .before .before .before .before .before .before .before .before .before .before .before .before .before .before .wide .ensures .0 in
+    let run = next-run (m .situation) (m .body) m _ _ (c .before .before .before .before .before .before .before .before .before .before .wide2 .ensures .0) (c .before .before .before .before .before .before .before .before .wide3 .ensures .0) .0 in
     let a = rw newest at (listed .2 (m .situation) (m .body)) in (
-      rw newest (conts-asked (m .situation) (m .body) (s .args .at .number) (s .args .at .room) _ _ (s .pre .1) _ _ _ (listed .1) a m _ _ (c .before .before .before .before .order-of .ensures .1 (m .next) run)),
+      rw newest (conts-asked (m .situation) (m .body) (s .args .at .number) (s .args .at .room) _ _ (s .pre .1) _ _ _ (listed .1) a m _ _ (c .before .before .before .before .before .order-of .ensures .1 (m .next) run)),
       s .pre .1,
       s .pre .2,
+      listed .0,
     )
+
+zero-requires : tie.Need-zero-requires
+zero-requires c κs = search needs
 
 same-length-4 : tie.Need-same-length-4
 same-length-4 c = search needs
@@ -118,17 +125,17 @@ same-length-7 c = search needs
 
 returns-3 : tie.Need-returns-3
 returns-3 c =
-    let s = c .before .before .before .before .before .before .before .before .before .before .before .before .before .before .before .before .before .before .before .before .before .before .before .before .before .before .before .before .before .before .before .before .before .before .before in
+    let s = c .before .before .before .before .before .before .before .before .before .before .before .before .before .before .before .before .before .before .before .before .before .before .before .before .before .before .before .before .before .before .before .before .before .before .before .before .before .before .before .before .before .before in
     let m = s .pre .0 in
-    let listed = c .before .before .before .before .before .before .before .before .before .before .before .before .before .before .before .before .before .before .before .before .before .list-answers .ensures in
-    let newest = c .before .before .before .before .before .before .before .before .before .before .before .before .before .before .before .before .before .before .before .before .before .before .before .before .before .before .wide .ensures .0 in (
-      listed .0,
+    let listed = c .before .before .before .before .before .before .before .before .before .before .before .before .before .before .before .before .before .before .before .before .before .before .before .before .before .before .before .before .list-answers .ensures in
+    let newest = c .before .before .before .before .before .before .before .before .before .before .before .before .before .before .before .before .before .before .before .before .before .before .before .before .before .before .before .before .before .before .before .before .before .wide .ensures .0 in (
+      c .before .before .zero .ensures ∙ ap (λ (k : ℕ). replicate {A = ℕ} k 0) (c .before .before .before .before .before .before .before .before .before .before .emit-conts .kept .1 .1 .1 .1 .1 .1 .1 .1 .1 .1 .1 .1 .0 ∙ ap length (listed .0) ∙ length-replicate {A = ℕ} setWords 0),
       λ w b.
-          let run = next-run w b m _ _ (c .before .before .before .before .before .before .before .before .before .before .before .before .before .before .wide2 .ensures .0) (c .before .before .before .before .before .before .before .before .before .before .before .before .wide3 .ensures .0) .0 in
+          let run = next-run w b m _ _ (c .before .before .before .before .before .before .before .before .before .before .before .before .before .before .before .before .before .before .before .before .before .wide2 .ensures .0) (c .before .before .before .before .before .before .before .before .before .before .before .before .before .before .before .before .before .before .before .wide3 .ensures .0) .0 in
           let a = rw newest at (listed .2 w b) in
-          let o = c .before .before .before .before .before .before .before .before .before .order-of .ensures .1 (m .next) run in
+          let o = c .before .before .before .before .before .before .before .before .before .before .before .before .before .before .before .before .order-of .ensures .1 (m .next) run in
           let asked = conts-asked w b (s .args .at .number) (s .args .at .room) _ _ (s .pre .1) _ _ _ (listed .1) a m _ _ o in
-          next-rows w b _ _ _ _ (s .pre .1) _ _ _ (listed .1) a m _ _ o _ _ _ ((rw newest at (c .before .before .before .before .emit-conts .ensures)) asked),
+          next-rows w b _ _ _ _ (s .pre .1) _ _ _ (listed .1) a m _ _ o _ _ _ ((rw newest at (c .before .before .before .before .before .before .before .before .before .before .emit-conts .ensures)) asked),
     )
 
 pub middle-place-spec : {M : Type 1} → statement M
@@ -161,6 +168,7 @@ middle-place-spec =
     part-order-of-end
     order-of-requires
     emit-conts-requires
+    zero-requires
     same-length-4
     same-length-5
     same-length-6
