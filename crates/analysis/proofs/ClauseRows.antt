@@ -2,6 +2,7 @@
 use Prim.Native.Nat.{ℕ, zero, suc, _+_, _-_, _≤_, _<_}
 use native.Mathlib.Omega.{arith}
 use mathlib.Core.Path.{_≡_, refl, sym, ap, subst, _∙_}
+use mathlib.Core.Bool.{Bool}
 use mathlib.Core.Logic.{_⊎_, inl, inr, ⊎-elim}
 use mathlib.Core.List.{List}
 use lib.ListN.{length, getD}
@@ -22,7 +23,7 @@ use Rattle.table.proofs.Looking.{by-places, by-clauses}
 use Rattle.steps.specs.Steps.{RowsIn, Writable, Grew, Stepped}
 use Rattle.steps.specs.Situation.{Situation, BodyOf, FirstAsked, HeadAsked, LastAsked}
 use Rattle.steps.specs.Since.{PredicateAsked}
-use Rattle.steps.specs.Heads.{HeadMark, Marked}
+use Rattle.steps.specs.Heads.{HeadMark, Marked, Told}
 use Rattle.analysis.specs.Clauses.{MiddlesAsked, PastPlaces, Places, AtEnd}
 use Rattle.steps.proofs.Meetings.{setting-within}
 use Rattle.steps.proofs.Bodies.{first-body, head-is-atom}
@@ -148,10 +149,10 @@ module _ (words dir table heads : List ℕ) (since rows k : ℕ) (w : HeadAsked 
             head-variables = marks-for there (λ v. (λ l. its-clause .head-variables v .1 (rw e at l), λ o. rw e (its-clause .head-variables v .0 o))) marks;
           }
 
-      pub last-marked : (found found′ : List ℕ)
-          → ((s : Situation words dir table heads since rows) (b : BodyOf (s .p) (end - 1)) → Marked (HeadMark (s .p) table since rows (b .k) (suc (b .i))) found found′)
-          → Marked (HeadMark p table since rows k (length (c .body))) found found′
-      last-marked found found′ h = subst (λ (i : ℕ). Marked (HeadMark p table since rows k i) found found′) last-suc (h (w .situation) last-body)
+      pub last-marked : (found found′ : List ℕ) (r : Bool)
+          → ((s : Situation words dir table heads since rows) (b : BodyOf (s .p) (end - 1)) → Marked (HeadMark (s .p) table since rows (b .k) (suc (b .i))) found found′ × Told (HeadMark (s .p) table since rows (b .k) (suc (b .i))) r)
+          → Marked (HeadMark p table since rows k (length (c .body))) found found′ × Told (HeadMark p table since rows k (length (c .body))) r
+      last-marked found found′ r h = subst (λ (i : ℕ). Marked (HeadMark p table since rows k i) found found′ × Told (HeadMark p table since rows k i) r) last-suc (h (w .situation) last-body)
 
       first-there : (A : Term) × Nth (c .body) 0 A
       first-there = below-nth (c .body) 0 some
@@ -187,7 +188,7 @@ module _ (words dir table heads : List ℕ) (since rows k : ℕ) (w : HeadAsked 
           }
 
 -- a step for rows with the same keys
-stepped-over : (p : Program) (S : List ℕ → List ℕ → ℕ → Type 0) (ks₀ ks₀′ ks ks′ : List ℕ) (round room n n′ : ℕ) (table buckets table′ buckets′ : List ℕ) → ks₀ ≡ ks₀′ → ks ≡ ks′
+pub stepped-over : (p : Program) (S : List ℕ → List ℕ → ℕ → Type 0) (ks₀ ks₀′ ks ks′ : List ℕ) (round room n n′ : ℕ) (table buckets table′ buckets′ : List ℕ) → ks₀ ≡ ks₀′ → ks ≡ ks′
     → Stepped p ks round room n table buckets (S ks₀ ks) n′ table′ buckets′ → Stepped p ks′ round room n table buckets (S ks₀′ ks′) n′ table′ buckets′
 stepped-over p S ks₀ ks₀′ ks ks′ round room n n′ table buckets table′ buckets′ e f h =
     subst (λ (x : List ℕ). Stepped p ks′ round room n table buckets (S x ks′) n′ table′ buckets′) e

@@ -19,24 +19,25 @@ use Rattle.program.specs.Program.{Clause, Program}
 use Rattle.program.proofs.ShapeLaws.{nth-same}
 use Rattle.program.proofs.Nths.{nth-below}
 use Rattle.directory.specs.Directory.{predicateOf}
-use Rattle.rows.specs.Rows.{masks, slotAt, maskAt, keysOf}
+use Rattle.rows.specs.Rows.{masks, slotAt, keysOf}
 use Rattle.rows.specs.MaskSet.{setWords, InSet}
-use Rattle.rows.proofs.Keys.{key-listed}
 use Rattle.rows.proofs.MaskSets.{none-in-zeros}
 use Rattle.table.specs.Rules.{Row, call, Reached, first, next}
-use Rattle.table.specs.Steps.{opens, makes, EndsIn, ends-in, on-head}
-use Rattle.table.specs.NewRows.{New, NewReached, new-on-head, NewEnds}
+use Rattle.table.specs.Steps.{opens, makes, EndsIn, ends-in}
+use Rattle.table.specs.NewRows.{New, NewReached, new-on-head}
 use Rattle.table.specs.RoundKeys.{Keyed}
 use Rattle.table.proofs.NewRows.{new-reached}
 use Rattle.steps.specs.Steps.{RowsIn}
 use Rattle.steps.specs.Situation.{HeadAsked}
 use Rattle.steps.specs.Since.{SinceIn}
 use Rattle.steps.specs.Heads.{ReachedSince, HeadMark, Marked, Solved, solved, SolveAsked}
-use Rattle.analysis.specs.Clauses.{AtEnd}
+use Rattle.analysis.specs.Clauses.{EndsSince}
 use Rattle.steps.proofs.ShapeAtoms.{shape-is-atom}
 use Rattle.steps.proofs.Meetings.{setting-within}
 use Rattle.steps.proofs.Bodies.{head-is-atom}
 use Rattle.steps.proofs.SlotRows.{in-slot}
+use Rattle.solving.proofs.SolveLaws.{late-row}
+use Rattle.analysis.proofs.ClearedMarks.{cleared-empty}
 
 -- marks of other variables than the head's pass nothing on
 module _ (H S : Term) (N q C R : ℕ) (k : Kept (λ v. Occ v H) N q) where
@@ -115,10 +116,11 @@ module _ (words dir table heads : List ℕ) (since rows k : ℕ) (w : HeadAsked 
     found-mark : (q : ℕ) → InSet found q → HeadMark p table since′ rows k (length (c .body)) q
     found-mark q h = ⊎-elim (λ z. absurd (none-in-zeros setWords q z)) (λ m. m) (marked .members q (found-below q h) .0 h)
 
-    pub solve-asked : SolveAsked words dir table heads found since rows k
-    solve-asked =
+    pub solve-asked : (from : ℕ) → from ≤ rows → SolveAsked words dir table heads found since from rows k
+    solve-asked from l =
         record {
           situation = w .situation;
+          from-within = l;
           clause = w .clause;
           set-size = marked .size;
           result = λ q l h.
@@ -133,56 +135,47 @@ module _ (words dir table heads : List ℕ) (since rows k : ℕ) (w : HeadAsked 
         let l : q < 2 ^ vars = marks-below vars q (λ v b. few v (subst (λ (d : Clause). Occ v (d .head)) (nth-same (m .nth-clause) (w .clause .nth-clause)) (m .kept v .0 b .0))) in
         omega arith
 
-    -- marks that are in the set, with a call row, give a row that is solved
-    marks-solved : (N s C : ℕ) (row : Row ℕ) → ReachedSince p table since′ rows k (length (c .body)) N → T (call s C) → EndsIn modes p k N s C row
-        → Solved p table rows k found row
-    marks-solved N s C _ reached called (ends-in {S = S} {R = R} hc hs passed) =
-        let (q, l, kept, m) = head-mark since′ (length (c .body)) N reached in
-        solved (w .clause .nth-clause) l (marked .members q l .1 (inr m)) hs called
-        (kept-passes (c .head) S N q C R kept (subst (λ (d : Clause). Pass (d .head) N S C R) (nth-same hc (w .clause .nth-clause)) passed))
+    -- no marks, and the set is still empty
+    pub none-found : ((v : ℕ) → getD found v 0 < masks) → ((q : ℕ) → HeadMark p table since′ rows k (length (c .body)) q → ⊥) → found ≡ replicate setWords 0
+    none-found small none = cleared-empty found 0 (marked .size) (omega arith) small (λ q h. absurd (none q (found-mark q h)))
 
-    ends-new : since′ ≡ since → (row : Row ℕ) → NewEnds modes p (RowsIn p (keysOf table since)) T k row → Solved p table rows k found row
-    ends-new e row (N, new-on-head {c = d} hc reached, s, C, called, ends) =
-        marks-solved N s C row
-        (rw e (subst (λ (d : Clause). ReachedSince p table since rows k (length (d .body)) N) (nth-same hc (w .clause .nth-clause)) reached)) called ends
-
-    ends-all : since′ ≡ 0 → (N s C : ℕ) (row : Row ℕ) → Reached modes p T k (length (c .body)) N → T (call s C) → EndsIn modes p k N s C row → Solved p table rows k found row
-    ends-all e N s C row reached called ends =
-        marks-solved N s C row (rw e (all-new p (RowsIn p (keysOf table 0)) T (λ r o. List·Memᴰ·not-nil (o .1)) reached)) called ends
-
-    -- a new call row whose shape unifies with the head is one of a shape of its predicate
-    late-found : (N s C : ℕ) (row : Row ℕ) → New modes p (RowsIn p (keysOf table since)) T (call s C) → EndsIn modes p k N s C row
-        → SinceIn p heads (predicateOf (c .head)) 0 since
-    late-found N s C _ (there, new) (ends-in {S = S} {R = R} hc hs passed) =
-        let chains = w .situation .chains in
-        let (r, l, e, m) = in-slot p table heads since rows chains rows (call s C) (omega arith) there in
-        let late : since ≤ r = at r e m (decLt r since) in
-        let below : s < length heads = omega (arith, nth-below hs, w .situation .setting .directory .shape-count, w .situation .setting .directory .shapes-most, chains .all-heads) in
-        let link : since < getD heads s 0 = newer r e l late below (decLt since (getD heads s 0)) in
-        let z : 0 + s ≡ s = omega arith in
-        let d = nth-same hc (w .clause .nth-clause) in
-        let u : Pass (c .head) N S C R = subst (λ (d : Clause). Pass (d .head) N S C R) d passed in (
-          s,
-          S,
-          hs,
-          one-predicate (u .α) (u .β) head-atom (shape-is-atom p (setting-within (w .situation .setting)) hs) (u .unifier .unifies),
-          rw z link,
+    -- what the clause ends in by marks in the set is solved
+    pub ends-solved : (from key : ℕ) → EndsSince p (keysOf table since′) (keysOf table from) (keysOf table rows) k key → Keyed p (Solved p table from rows k found) key
+    ends-solved from key (_, (N, new-on-head {c = d} hc reached, s, C, called, ends-in {S = S} {R = R} hc′ hs passed), e) =
+        let same = nth-same hc (w .clause .nth-clause) in
+        let (q, l, kept, m) = head-mark since′ (length (c .body)) N (subst (λ (d : Clause). ReachedSince p table since′ rows k (length (d .body)) N) same reached) in (
+          _,
+          solved (w .clause .nth-clause) l (marked .members q l .1 (inr m)) hs called
+              (kept-passes (c .head) S N q C R kept (subst (λ (d : Clause). Pass (d .head) N S C R) (nth-same hc′ (w .clause .nth-clause)) passed)),
+          e,
         )
-      where
-        at : (r : ℕ) → slotAt table r ≡ s → maskAt table r ≡ C → Dec (r < since) → since ≤ r
-        at r e m (yes b) = absurd (new (there .0, rw (e, m) at (key-listed table since r b)))
-        at r e m (no b) = omega arith
 
-        newer : (r : ℕ) → slotAt table r ≡ s → r < rows → since ≤ r → s < length heads → Dec (since < getD heads s 0) → since < getD heads s 0
-        newer r e l late below (yes b) = b
-        newer r e l late below (no b) = absurd (w .situation .chains .by-slot .from-heads s below .last r (omega arith) l e)
+  -- without marks the clause ends in nothing
+  pub nothing-ends : (since′ from : ℕ) → ((q : ℕ) → HeadMark p table since′ rows k (length (c .body)) q → ⊥) → (key : ℕ)
+      → EndsSince p (keysOf table since′) (keysOf table from) (keysOf table rows) k key → ⊥
+  nothing-ends since′ from none key (row, (N, new-on-head {c = d} hc reached, s, C, called, ends), e) =
+      let (q, l, kept, m) =
+      head-mark since′ (length (c .body)) N
+      (subst (λ (d : Clause). ReachedSince p table since′ rows k (length (d .body)) N) (nth-same hc (w .clause .nth-clause)) reached) in
+      none q m
 
-    -- all that the clause ends in is solved, where the set has all marks, or those since the last round and no call row is late
-    pub ends-solved : (since′ ≡ 0) ⊎ ((since′ ≡ since) × (SinceIn p heads (predicateOf (c .head)) 0 since → ⊥)) → (key : ℕ)
-        → AtEnd p (keysOf table since) (keysOf table rows) k key → Keyed p (Solved p table rows k found) key
-    ends-solved (inr (e, none)) key (inl (row, h, d)) = (row, ends-new e row h, d)
-    ends-solved (inr (e, none)) key (inr (row, (N, head, s, C, called, ends), d)) = absurd (none (late-found N s C row called ends))
-    ends-solved (inl e) key (inl (row, (N, new-on-head {c = c′} hc reached, s, C, called, ends), d)) =
-        (row, ends-all e N s C row (subst (λ (f : Clause). Reached modes p T k (length (f .body)) N) (nth-same hc (w .clause .nth-clause)) (new-reached modes p (RowsIn p (keysOf table since)) T k (length (c′ .body)) N reached)) called ends, d)
-    ends-solved (inl e) key (inr (row, (N, on-head hc reached, s, C, called, ends), d)) =
-        (row, ends-all e N s C row (subst (λ (f : Clause). Reached modes p T k (length (f .body)) N) (nth-same hc (w .clause .nth-clause)) reached) (called .0) ends, d)
+  -- a new call row whose shape unifies with the head is one of a shape of its predicate
+  pub late-found : (N s C : ℕ) (row : Row ℕ) → New modes p (RowsIn p (keysOf table since)) T (call s C) → EndsIn modes p k N s C row
+      → SinceIn p heads (predicateOf (c .head)) 0 since
+  late-found N s C _ called (ends-in {S = S} {R = R} hc hs passed) =
+      let chains = w .situation .chains in
+      let (r, l, e, m) = in-slot p table heads since rows chains rows (call s C) (omega arith) (called .0) in
+      let late : since ≤ r = late-row p table since rows r s C e m called in
+      let below : s < length heads = omega (arith, nth-below hs, w .situation .setting .directory .shape-count, w .situation .setting .directory .shapes-most, chains .all-heads) in
+      let z : 0 + s ≡ s = omega arith in
+      let u : Pass (c .head) N S C R = subst (λ (d : Clause). Pass (d .head) N S C R) (nth-same hc (w .clause .nth-clause)) passed in (
+        s,
+        S,
+        hs,
+        one-predicate (u .α) (u .β) head-atom (shape-is-atom p (setting-within (w .situation .setting)) hs) (u .unifier .unifies),
+        rw z (newer r e l late below (decLt since (getD heads s 0))),
+      )
+    where
+      newer : (r : ℕ) → slotAt table r ≡ s → r < rows → since ≤ r → s < length heads → Dec (since < getD heads s 0) → since < getD heads s 0
+      newer r e l late below (yes b) = b
+      newer r e l late below (no b) = absurd (w .situation .chains .by-slot .from-heads s below .last r (omega arith) l e)

@@ -3,6 +3,7 @@ pub mod MiddlePlaces
 pub mod HeadMarks
 pub mod ClauseRows
 pub mod ClearedMarks
+pub mod Endings
 pub mod RoundByRound
 pub mod Unpacking
 pub mod LastRows

@@ -8,12 +8,13 @@ use Rattle.marks.specs.Modes.{modes}
 use Rattle.program.specs.Program.{Program}
 use Rattle.rows.specs.Rows.{rowSize, slots, buckets as bucketCount, maxRows, masks, roundAt, slotAt, maskAt, keyAt, keysOf}
 use Rattle.rows.specs.MaskSet.{setWords}
-use Rattle.table.specs.Rules.{Row}
+use Rattle.table.specs.Rules.{Row, call}
+use Rattle.table.specs.Steps.{EndsIn}
 use Rattle.table.specs.Rounds.{At, First}
 use Rattle.table.specs.Table.{MoreThan}
 use Rattle.table.specs.Keys.{rowOf, bodyIndex}
 use Rattle.table.specs.Added.{Below}
-use Rattle.table.specs.NewRows.{NewGoesOn, NewEnds, LateCalls}
+use Rattle.table.specs.NewRows.{New, NewOnHead, NewGoesOn, NewEnds, LateCalls}
 use Rattle.table.specs.RoundKeys.{Keyed, RoundKeys}
 use Rattle.steps.specs.Steps.{RowsIn}
 use Rattle.steps.specs.Situation.{Setting, Situation, ClauseOf}
@@ -39,6 +40,12 @@ Places p ks₀ ks k i = Below (λ i. Keyed p (NewGoesOn modes p (RowsIn p ks₀)
 -- what clause k ends in
 abbrev pub AtEnd : Program → List ℕ → List ℕ → ℕ → ℕ → Type 0
 AtEnd p ks₀ ks k key = Keyed p (NewEnds modes p (RowsIn p ks₀) (RowsIn p ks) k) key ⊎ Keyed p (LateCalls modes p (RowsIn p ks₀) (RowsIn p ks) k) key
+
+-- what clause k ends in by marks on its head that result with a row that is not in ks₀, and by call rows that are not in `from`
+abbrev pub EndsSince : Program → List ℕ → List ℕ → List ℕ → ℕ → ℕ → Type 0
+EndsSince p ks₀ from ks k =
+    Keyed p (λ row.
+    (N : ℕ) × NewOnHead modes p (RowsIn p ks₀) (RowsIn p ks) k N × (s : ℕ) × (C : ℕ) × New modes p (RowsIn p from) (RowsIn p ks) (call s C) × EndsIn modes p k N s C row)
 
 -- the scratch of a round: nothing seen, nothing found, and a list for the answers
 pub record Scratch (seen answers found : List ℕ) : Type 0 where

@@ -1,4 +1,5 @@
 // The analysis: the mode rules, round by round, until a round adds no row; and the table in its order.
 pub mod analyse;
+pub mod ends;
 pub mod rounds;
 pub mod unpack;

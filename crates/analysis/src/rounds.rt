@@ -1,20 +1,13 @@
 // The rounds: each looks at the combinations with a row of the last one, clause by clause and place by place.
+use crate::ends::end_clause;
 use calling::calls::first_place;
-use calling::calls::mark_head;
 use directory::layout::CLAUSE_COUNT;
 use directory::layout::CLAUSE_FIRST;
-use directory::layout::CLAUSE_HEAD;
-use directory::layout::CLAUSE_VARS;
 use directory::layout::GOAL_GROUND;
-use joining::joins::last_place;
 use joining::joins::middle_place;
 use rows::chain::link;
 use rows::store::add;
-use rows::zeros::clear;
-use solving::solve::solve;
-use steps::meet::first_variables;
 use steps::place::Round;
-use steps::since::any_since;
 use terms::walk::wide;
 ghost use mathlib.Core.Path.{_≡_};
 ghost use mathlib.Core.List.{List};
@@ -28,8 +21,7 @@ ghost use Rattle.table.specs.NewRows.{NewIn, NewGives};
 ghost use Rattle.table.specs.RoundKeys.{Keyed};
 ghost use Rattle.steps.specs.Situation.{Setting, Situation, HeadAsked};
 ghost use Rattle.steps.specs.Steps.{RowsIn, Writable, Stepped};
-ghost use Rattle.steps.specs.Heads.{HeadMark, Marked};
-ghost use Rattle.analysis.specs.Clauses.{MiddlesAsked, PastPlaces, Places, AtEnd, Scratch, RoundsAsked, Finished};
+ghost use Rattle.analysis.specs.Clauses.{MiddlesAsked, PastPlaces, Places, Scratch, RoundsAsked, Finished};
 
 // The middle places of a clause, whose body atoms are first..last.
 fn middle_places<'a>(
@@ -73,91 +65,6 @@ fn middle_places<'a>(
         }
         j += 1;
     }
-    rows
-}
-
-// Marks on the head of clause k that result from rows since `since`.
-fn head_marks<'a>(
-    words: &'a [u16],
-    dir: &'a [u16],
-    table: &[u16],
-    heads: &[u16],
-    seen: &mut [u16],
-    answers: &mut [u16],
-    since: usize,
-    before: usize,
-    k: usize,
-    found: &mut [u16],
-)
-    requires { ⌜ HeadAsked (now words) (now dir) (now table) (now heads) since before k × (length (now found) ≡ setWords)
-        × (now seen ≡ replicate setWords 0) × (length (now answers) ≡ 4096) ⌝ }
-    ensures { λ _. ⌜ (now (seen .exit) ≡ replicate setWords 0)
-        × ((w : HeadAsked (now (words .entry)) (now (dir .entry)) (now (table .entry)) (now (heads .entry)) since before k)
-        → Marked (HeadMark (w .situation .p) (now (table .entry)) since before k (length (w .clause .c .body))) (now (found .entry)) (now (found .exit))) ⌝ }
-{
-    let first = wide(dir[CLAUSE_FIRST + k]);
-    let end = wide(dir[CLAUSE_FIRST + k + 1]);
-    if first == end {
-        mark_head(words, dir, table, heads, since, k, found, before);
-        return;
-    }
-    let there = first_variables(wide(dir[CLAUSE_VARS + k]));
-    last_place(
-        words,
-        dir,
-        table,
-        heads,
-        seen,
-        answers,
-        since,
-        before,
-        end - 1,
-        there,
-        found,
-    );
-}
-
-// Rule 3 for clause k. Where a call row is new it goes over all marks on the head again, for the new call's sake.
-fn end_clause<'a>(
-    words: &'a [u16],
-    dir: &'a [u16],
-    table: &mut [u16],
-    buckets: &mut [u16],
-    heads: &[u16],
-    seen: &mut [u16],
-    answers: &mut [u16],
-    found: &mut [u16],
-    n: usize,
-    at: Round,
-    k: usize,
-) -> usize
-    requires { ⌜ HeadAsked (now words) (now dir) (now table) (now heads) (at .since) (at .rows) k × Writable (now table) (now buckets) n (at .room) × (at .rows ≤ n)
-        × Scratch (now seen) (now answers) (now found) ⌝ }
-    ensures { λ r. ⌜ Scratch (now (seen .exit)) (now (answers .exit)) (now (found .exit))
-        × ((w : HeadAsked (now (words .entry)) (now (dir .entry)) (now (table .entry)) (now (heads .entry)) (at .since) (at .rows) k)
-        → Stepped (w .situation .p) (keysOf (now (table .entry)) (at .rows)) (at .number) (at .room) n (now (table .entry)) (now (buckets .entry))
-        (AtEnd (w .situation .p) (keysOf (now (table .entry)) (at .since)) (keysOf (now (table .entry)) (at .rows)) k) r (now (table .exit)) (now (buckets .exit))) ⌝ }
-{
-    let before = at.rows;
-    let mut since = at.since;
-    let predicate = wide(words[wide(dir[CLAUSE_HEAD + k])]);
-    if any_since(dir, heads, predicate, 0, since) {
-        since = 0;
-    }
-    head_marks(
-        words,
-        dir,
-        table,
-        heads,
-        seen,
-        answers,
-        since,
-        before,
-        k,
-        found,
-    );
-    let rows = solve(words, dir, table, buckets, heads, n, at, k, found);
-    clear(found, ((1usize << wide(dir[CLAUSE_VARS + k])) + 15) / 16);
     rows
 }
 

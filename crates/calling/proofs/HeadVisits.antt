@@ -2,8 +2,10 @@
 use Prim.Native.Nat.{ℕ, _+_, _-_, _≤_, _<_}
 use native.Mathlib.Omega.{arith}
 use mathlib.Core.Path.{_≡_, subst}
+use mathlib.Core.Bool.{Bool, false}
 use mathlib.Core.Logic.{_⊎_, ⊎-elim, _↔_}
 use mathlib.Core.List.{List}
+use lib.Dec.{T}
 use lib.ListN.{length, getD}
 use Rattle.terms.specs.Term.{Occ}
 use Rattle.terms.specs.Mask.{Has, Marks}
@@ -20,7 +22,7 @@ use Rattle.directory.specs.Layout.{clauseHead, clauseCells, clauseVars, shapeNe
 use Rattle.directory.specs.Directory.{Stands-at, Link, predicateOf}
 use Rattle.table.specs.Steps.{opens}
 use Rattle.steps.specs.Situation.{Situation, ClauseOf, HeadAsked}
-use Rattle.steps.specs.Heads.{ReachedSince, HeadMark, Marked}
+use Rattle.steps.specs.Heads.{ReachedSince, HeadMark, Marked, Told}
 use Rattle.calling.specs.Calls.{OpenedBy, OpenedBelow, MarkShape}
 use Rattle.steps.proofs.ShapeLinks.{shapesLeft, next-link, links-fall}
 use Rattle.steps.proofs.MarkedSets.{marked-same, marked-none, marked-then}
@@ -64,17 +66,18 @@ module _ {words dir table heads : List ℕ} {since rows k : ℕ} (w : Situation 
   predicate = predicateOf (b .c .head)
 
   module _ (found : List ℕ) (start cells there : ℕ) where
-    -- the shapes below a number are done, and the link leads to the next
-    pub record HeadVisiting (link : ℕ) (found′ : List ℕ) : Type 0 where
+    -- the shapes below a number are done, and the link leads to the next; `any` is true where they gave marks
+    pub record HeadVisiting (link : ℕ) (found′ : List ℕ) (any : Bool) : Type 0 where
       pub stands : Stands-at words (b .c .head) start cells
       pub head-variables : VariablesOf (b .c .head) there
       pub from : ℕ
       pub next : Link (shapes p) predicate from link
       pub marked : Marked (OpenedBelow p table since rows k predicate from) found found′
+      pub told : Told (OpenedBelow p table since rows k predicate from) any
 
     pub head-begins : (link : ℕ) → length found ≡ setWords → start ≡ getD dir (clauseHead + k) 0 → cells ≡ getD dir (clauseCells + k) 0
         → there < 65536 → Marks (λ v. v < getD dir (clauseVars + k) 0) there
-        → link ≡ getD dir (predicateShape + getD words start 0) 0 → HeadVisiting link found
+        → link ≡ getD dir (predicateShape + getD words start 0) 0 → HeadVisiting link found false
     head-begins link size e f small m g =
         let at-start = head-stands (w .setting) (b .nth-clause) e f in
         record {
@@ -83,9 +86,10 @@ module _ {words dir table heads : List ℕ} {since rows k : ℕ} (w : Situation 
           from = 0;
           next = first-link (w .setting) (b .nth-clause) at-start g;
           marked = marked-none found size (below-none (w .setting) (b .nth-clause) table since rows);
+          told = λ N o. below-none (w .setting) (b .nth-clause) table since rows N o;
         }
 
-    module _ {link : ℕ} {found′ : List ℕ} (v : HeadVisiting link found′) (some : 0 < link) where
+    module _ {link : ℕ} {found′ : List ℕ} {any : Bool} (v : HeadVisiting link found′ any) (some : 0 < link) where
       abbrev pub head-shape : MarkShape words dir table heads since (link - 1) start cells there
       head-shape =
           record {
@@ -112,25 +116,29 @@ module _ {words dir table heads : List ℕ} {since rows k : ℕ} (w : Situation 
       head-nearer next e =
           rw e (links-fall (w .setting) (v .next) some)
 
-      pub head-on : {found″ : List ℕ} → Marked (OpenedBy p table since rows k (link - 1)) found′ found″ → (next : ℕ)
-          → next ≡ getD dir (shapeNext + (link - 1)) 0 → HeadVisiting next found″
-      head-on {found″} m next e =
+      pub head-on : {found″ : List ℕ} {any′ : Bool} → Marked (OpenedBy p table since rows k (link - 1)) found′ found″ → (T any → T any′)
+          → Told (OpenedBy p table since rows k (link - 1)) any′ → (next : ℕ) → next ≡ getD dir (shapeNext + (link - 1)) 0 → HeadVisiting next found″ any′
+      head-on {found″} m still told next e =
           record {
             stands = v .stands;
             head-variables = v .head-variables;
             from = link;
             next = rw e (next-link (w .setting) (v .next) some);
             marked = marked-same found found″ same (marked-then found found′ found″ (v .marked) m);
+            told = λ N o. ⊎-elim (λ x. still (v .told N x)) (told N) (same N .1 o);
           }
         where
           same : (N : ℕ) → (OpenedBelow p table since rows k predicate (v .from) N ⊎ OpenedBy p table since rows k (link - 1) N)
               ↔ OpenedBelow p table since rows k predicate link N
           same N = let o = below-next (w .setting) (b .nth-clause) table since rows (v .next) some N in (o .1, o .0)
 
-    pub head-ends : {link : ℕ} {found′ : List ℕ} → HeadVisiting link found′ → link ≤ 0 → Marked (HeadMark p table since rows k 0) found found′
-    head-ends {link} {found′} v l =
-        marked-same found found′ (reached-head p table since rows (b .nth-clause))
-        (marked-same found found′ (below-all (w .setting) (b .nth-clause) table since rows last) (v .marked))
+    pub head-ends : {link : ℕ} {found′ : List ℕ} {any : Bool} → HeadVisiting link found′ any → link ≤ 0
+        → Marked (HeadMark p table since rows k 0) found found′ × Told (HeadMark p table since rows k 0) any
+    head-ends {link} {found′} v l = (
+      marked-same found found′ (reached-head p table since rows (b .nth-clause))
+          (marked-same found found′ (below-all (w .setting) (b .nth-clause) table since rows last) (v .marked)),
+      λ q m. v .told q (below-all (w .setting) (b .nth-clause) table since rows last q .1 (reached-head p table since rows (b .nth-clause) q .1 m)),
+    )
       where
         last : Link (shapes p) predicate (v .from) 0
         last = let e : link ≡ 0 = omega arith in rw e at (v .next)

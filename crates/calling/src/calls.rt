@@ -27,7 +27,7 @@ ghost use Rattle.table.specs.NewRows.{NewGoesOn};
 ghost use Rattle.table.specs.RoundKeys.{Keyed};
 ghost use Rattle.steps.specs.Situation.{Situation, FirstAsked, HeadAsked};
 ghost use Rattle.steps.specs.Steps.{RowsIn, Writable, Stepped};
-ghost use Rattle.steps.specs.Heads.{HeadMark, Marked};
+ghost use Rattle.steps.specs.Heads.{HeadMark, Marked, Told};
 ghost use Rattle.calling.specs.Calls.{OpenedBy, Emits, EmitAsked, MarkAsked, FirstShape, MarkShape};
 
 // The new call rows of one shape, to a clause with a body: rows for its first body atom.
@@ -191,7 +191,7 @@ fn mark_shape(
     }
 }
 
-// The call rows of shape s from `since` on, where it unifies with the head of a clause: marks on the head, into the set.
+// The call rows of shape s from `since` on, where it unifies with the head of a clause: marks on the head, into the set. Says whether there are any.
 fn marks_of_shape<'a>(
     words: &'a [u16],
     dir: &'a [u16],
@@ -203,24 +203,26 @@ fn marks_of_shape<'a>(
     cells: usize,
     there: u16,
     found: &mut [u16],
-)
+) -> bool
     requires { ⌜ MarkShape (now words) (now dir) (now table) (now heads) since s start cells there × (length (now found) ≡ setWords) ⌝ }
-    ensures { λ _. ⌜ ((a : MarkShape (now (words .entry)) (now (dir .entry)) (now (table .entry)) (now (heads .entry)) since s start cells there)
-        → Marked (OpenedBy (a .p) (now (table .entry)) since (a .rows) (a .k) s) (now (found .entry)) (now (found .exit))) ⌝ }
+    ensures { λ r. ⌜ ((a : MarkShape (now (words .entry)) (now (dir .entry)) (now (table .entry)) (now (heads .entry)) since s start cells there)
+        → Marked (OpenedBy (a .p) (now (table .entry)) since (a .rows) (a .k) s) (now (found .entry)) (now (found .exit))
+        × Told (OpenedBy (a .p) (now (table .entry)) since (a .rows) (a .k) s) r) ⌝ }
 {
     let newest = wide(heads[s]);
     if newest <= since {
-        return;
+        return false;
     }
     let mut sets = [0u32; 32];
     if !meet(words, dir, s, start, cells, &mut sets) {
-        return;
+        return false;
     }
     let here = first_variables(wide(dir[SHAPE_VARS + s]));
     mark_shape(table, newest, &sets, here, there, since, found);
+    true
 }
 
-// All call rows from `since` on, to clause k.
+// All call rows from `since` on, to clause k. Says whether marks result.
 pub fn mark_head<'a>(
     words: &'a [u16],
     dir: &'a [u16],
@@ -230,18 +232,20 @@ pub fn mark_head<'a>(
     k: usize,
     found: &mut [u16],
     rows: usize,
-)
+) -> bool
     requires { ⌜ HeadAsked (now words) (now dir) (now table) (now heads) since rows k × (length (now found) ≡ setWords) ⌝ }
-    ensures { λ _. ⌜ ((w : Situation (now (words .entry)) (now (dir .entry)) (now (table .entry)) (now (heads .entry)) since rows)
-        → Marked (HeadMark (w .p) (now (table .entry)) since rows k 0) (now (found .entry)) (now (found .exit))) ⌝ }
+    ensures { λ r. ⌜ ((w : Situation (now (words .entry)) (now (dir .entry)) (now (table .entry)) (now (heads .entry)) since rows)
+        → Marked (HeadMark (w .p) (now (table .entry)) since rows k 0) (now (found .entry)) (now (found .exit))
+        × Told (HeadMark (w .p) (now (table .entry)) since rows k 0) r) ⌝ }
 {
     let start = wide(dir[CLAUSE_HEAD + k]);
     let cells = wide(dir[CLAUSE_CELLS + k]);
     let there = first_variables(wide(dir[CLAUSE_VARS + k]));
+    let mut any = false;
     let mut link = wide(dir[PREDICATE_SHAPE + wide(words[start])]);
     while 0 < link {
         let s = link - 1;
-        marks_of_shape(
+        if marks_of_shape(
             words,
             dir,
             table,
@@ -252,7 +256,10 @@ pub fn mark_head<'a>(
             cells,
             there,
             found,
-        );
+        ) {
+            any = true;
+        }
         link = wide(dir[SHAPE_NEXT + s]);
     }
+    any
 }

@@ -17,8 +17,7 @@ use Rattle.directory.specs.Layout.{bodyStart, bodyCells, dirWords, maxBodies}
 use Rattle.directory.specs.Directory.{BodyAt}
 use Rattle.directory.proofs.Cuts.{middle-part}
 use Rattle.rows.specs.Rows.{maskAt, keysOf}
-use Rattle.rows.specs.MaskSet.{setWords}
-use Rattle.table.specs.NewRows.{NewGoesOn}
+use Rattle.table.specs.NewRows.{NewReached, NewGoesOn}
 use Rattle.table.specs.RoundKeys.{Keyed}
 use Rattle.table.specs.Keys.{firstCont, bodyIndex}
 use Rattle.table.proofs.Keys.{index-same}
@@ -32,7 +31,7 @@ use Rattle.steps.proofs.Bodies.{body-there, body-few, body-is-atom}
 use Rattle.steps.proofs.Stepping.{stepped-none, stepped-must}
 use Rattle.steps.proofs.Emitting.{goes-emitted}
 use Rattle.joining.proofs.Joining.{joined-fewer}
-use Rattle.steps.proofs.MarkedSets.{marked-same, marked-none}
+use Rattle.steps.proofs.MarkedSets.{marked-same}
 use Rattle.joining.proofs.PlaceAnswers.{place-chain, place-slot, no-conts, conts-reach}
 
 -- a number has one body atom, whichever way the program and the atom are found
@@ -56,14 +55,21 @@ module _ {words dir table heads : List ℕ} {since rows j : ℕ} (w : Situation 
   body-asked = record { situation = w; body = b }
 
   -- marks on the head
-  pub no-head-marks : (found : List ℕ) → length found ≡ setWords → getD heads (firstCont + j) 0 ≡ 0 → Marked (HeadMark (w .p) table since rows (b .k) (suc (b .i))) found found
-  no-head-marks found size none = marked-none found size (λ q h. no-conts w b none (h .N) (h .reached))
+  pub no-head-marks : getD heads (firstCont + j) 0 ≡ 0 → (q : ℕ) → HeadMark (w .p) table since rows (b .k) (suc (b .i)) q → ⊥
+  no-head-marks none q h = no-conts w b none (h .N) (h .reached)
 
   module _ (answers : List ℕ) (fresh all : ℕ) (there : AnswersThere answers fresh all) where
     abbrev pub conts-there : ContsThere table answers (getD heads (firstCont + j) 0) fresh all
     conts-there = record { slot = firstCont + j; rows = rows; chain = place-chain w b; answers-there = there }
 
     module _ (a : Answered (w .p) table (b .A) since rows (getD heads (firstCont + j) 0) answers fresh all) where
+      -- no answer, and nothing made
+      pub no-answer : all ≡ 0 → (N : ℕ) → NewReached modes (w .p) (RowsIn (w .p) (keysOf table since)) (RowsIn (w .p) (keysOf table rows)) (b .k) (suc (b .i)) N → ⊥
+      no-answer none N reached =
+          let (r, f, l, e, d) = conts-reach w b answers fresh all a N .1 reached in
+          let (q, m, t) = ⊎-elim (joined-fewer (maskAt table r) answers fresh all N (there .few)) (λ x. x .1) d in
+          List·Memᴰ·not-nil (subst (λ (x : ℕ). List·Memᴰ q (take x answers)) none m)
+
       pub head-marked : (head : ℕ) (found found′ : List ℕ) → LastAsked words dir table heads since rows j head
           → Marked (KeptOf head (ContMarks table answers (firstCont + j) rows since fresh all 0)) found found′
           → Marked (HeadMark (w .p) table since rows (b .k) (suc (b .i))) found found′
@@ -135,12 +141,7 @@ module _ {words dir table heads : List ℕ} {since rows j : ℕ} (w : Situation 
       pub no-answers : all ≡ 0 → Stepped (w .p) (keysOf table rows) round room n table buckets NextKeys n table buckets
       no-answers none =
           stepped-none (w .p) (keysOf table rows) round room n table buckets NextKeys writable
-          (λ key (row, (N, made, goes), e). absurd (empty N (conts-reach w b answers fresh all a N .1 made)))
-        where
-          empty : (N : ℕ) → ContMarks table answers (firstCont + j) rows since fresh all 0 N → ⊥
-          empty N (r, f, l, e, d) =
-              let (q, m, t) = ⊎-elim (joined-fewer (maskAt table r) answers fresh all N (there .few)) (λ x. x .1) d in
-              List·Memᴰ·not-nil (subst (λ (x : ℕ). List·Memᴰ q (take x answers)) none m)
+          (λ key (row, (N, made, goes), e). absurd (no-answer answers fresh all there a none N made))
 
       module _ (m : MiddleAsked words dir table heads since rows j) (order : List ℕ) (count : ℕ) (o : InOrder (m .next) (number (m .next)) order count) where
         abbrev pub conts-asked : ContsAsked dir order table answers count rows (getD heads (firstCont + j) 0) since fresh all (j + 1)

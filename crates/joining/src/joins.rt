@@ -25,7 +25,7 @@ ghost use Rattle.table.specs.NewRows.{NewGoesOn};
 ghost use Rattle.table.specs.RoundKeys.{Keyed};
 ghost use Rattle.steps.specs.Situation.{Situation, BodyOf, MiddleAsked, LastAsked};
 ghost use Rattle.steps.specs.Steps.{RowsIn, Writable, Stepped};
-ghost use Rattle.steps.specs.Heads.{HeadMark, Marked};
+ghost use Rattle.steps.specs.Heads.{HeadMark, Marked, Told};
 ghost use Rattle.joining.specs.Joined.{JoinedWith, Had, ContMarks, RowsOf, KeptOf, JoinAsked, AnswersThere, ContsAsked, ContsThere, Answered, BodyAsked};
 
 // One cont row's marks with the first `upto` answers: rows for body atom j, each union of marks once, since those in the set have given theirs.
@@ -289,6 +289,7 @@ fn mark_conts(
 }
 
 // Past body atom j, its clause's last: marks on the head, which has the variables `there`, of combinations with a row from `since` on.
+// Says whether marks result.
 pub fn last_place<'a>(
     words: &'a [u16],
     dir: &'a [u16],
@@ -301,16 +302,17 @@ pub fn last_place<'a>(
     j: usize,
     there: u16,
     found: &mut [u16],
-)
+) -> bool
     requires { ⌜ LastAsked (now words) (now dir) (now table) (now heads) since before j there × (length (now found) ≡ setWords)
         × (now seen ≡ replicate setWords 0) × (length (now answers) ≡ 4096) ⌝ }
-    ensures { λ _. ⌜ (now (seen .exit) ≡ replicate setWords 0)
+    ensures { λ r. ⌜ (now (seen .exit) ≡ replicate setWords 0)
         × ((w : Situation (now (words .entry)) (now (dir .entry)) (now (table .entry)) (now (heads .entry)) since before) (b : BodyOf (w .p) j)
-        → Marked (HeadMark (w .p) (now (table .entry)) since before (b .k) (suc (b .i))) (now (found .entry)) (now (found .exit))) ⌝ }
+        → Marked (HeadMark (w .p) (now (table .entry)) since before (b .k) (suc (b .i))) (now (found .entry)) (now (found .exit))
+        × Told (HeadMark (w .p) (now (table .entry)) since before (b .k) (suc (b .i))) r) ⌝ }
 {
     let newest = wide(heads[CONTS + j]);
     if newest == 0 {
-        return;
+        return false;
     }
     let counts = list_answers(
         words,
@@ -326,5 +328,9 @@ pub fn last_place<'a>(
     );
     let fresh = counts.fresh;
     let all = counts.all;
+    if all == 0 {
+        return false;
+    }
     mark_conts(table, newest, since, answers, fresh, all, there, found);
+    true
 }

@@ -11,7 +11,7 @@ use Rattle.rows.specs.Rows.{rowSize, slots, slotAt, maskAt, beforeAt, keysOf, k
 use Rattle.rows.specs.Store.{Added}
 use Rattle.rows.specs.Chains.{Walked}
 use Rattle.rows.proofs.Adding.{same-mask}
-use Rattle.rows.proofs.Chaining.{chain-begins, chain-row-below, chain-row-class, chain-goes-on, chain-falls, walked-same, walk-ends}
+use Rattle.rows.proofs.Chaining.{chain-begins, chain-row-below, chain-row-class, chain-goes-on, chain-falls, walked-same}
 use Rattle.table.specs.Rules.{Row, call, solution}
 use Rattle.table.specs.Keys.{keyOf}
 use Rattle.table.specs.RoundKeys.{Keyed}
@@ -20,7 +20,7 @@ use Rattle.steps.specs.Steps.{Given, Writable, Grew, Stepped}
 use Rattle.solving.specs.Solving.{ToShape, PassesTo, SolvedBy}
 use Rattle.steps.proofs.Stepping.{grew-none, grew-must, stepped-then, stepped-within, stepped-past, added-stepped}
 use Rattle.steps.proofs.SlotRows.{in-slot}
-use Rattle.solving.proofs.SolveLaws.{to-shape-below, call-there, solution-key, passes-own, solution-given}
+use Rattle.solving.proofs.SolveLaws.{late-row, to-shape-below, call-there, solution-key, passes-own, solution-given}
 
 -- the solution row of the call row r is there
 pub record SolvedRow (table₀ : List ℕ) (slot mask : ℕ) (table : List ℕ) (rows r : ℕ) : Type 0 where
@@ -84,7 +84,7 @@ module _ {table₀ : List ℕ} {since old newest slot : ℕ} (w : ToShape table�
         both = stepped-then (w .p) ks round room n rows r table₀ buckets₀ table buckets table′ buckets′ (λ key. ⊥) (λ key. key ≡ rowKey slot R) (g .grew) one
 
         -- no room for the row
-        pub going-full : room < r → Stepped (w .p) ks round room n table₀ buckets₀ (Keyed (w .p) (SolvedBy w q)) r table′ buckets′
+        pub going-full : {Must : ℕ → Type 0} → room < r → Stepped (w .p) ks round room n table₀ buckets₀ Must r table′ buckets′
         going-full past = inr (stepped-past (w .p) ks round room n r table₀ buckets₀ table′ buckets′ (λ key. ⊥ ⊎ (key ≡ rowKey slot R)) both past)
 
         module _ (within : r ≤ room) where
@@ -120,10 +120,10 @@ module _ {table₀ : List ℕ} {since old newest slot : ℕ} (w : ToShape table�
           going-falls next e =
               rw (e, before-same) (chain-falls (slotAt table₀) (beforeAt table₀) (w .heads) old (w .chains .by-slot) (w .s) _ link (g .walked) h)
 
-    -- at the chain's end every call row has its solution row
-    pub going-ends : (q : ℕ) → PassesTo w mask q → link ≤ 0
-        → Stepped (w .p) (keysOf table₀ old) round room n table₀ buckets₀ (Keyed (w .p) (SolvedBy w q)) rows table buckets
-    going-ends q passes end = inl
+    -- where the walk ends every call row from row `from` on has its solution row
+    pub going-ends : (from q : ℕ) → PassesTo w mask q → link ≤ from
+        → Stepped (w .p) (keysOf table₀ old) round room n table₀ buckets₀ (Keyed (w .p) (SolvedBy w from q)) rows table buckets
+    going-ends from q passes end = inl
         (record {
           writable = g .grew .writable;
           more = g .grew .more;
@@ -134,12 +134,10 @@ module _ {table₀ : List ℕ} {since old newest slot : ℕ} (w : ToShape table�
           all = λ key (row, by, e). Memᴰ·cast (e ∙ ap (keyOf (w .p)) (by .is)) (of by);
         })
       where
-        ended : Walked (slotAt table₀) (w .s) old 0 (SolvedRow table₀ slot mask table rows)
-        ended = let e : link ≡ 0 = omega arith in rw e at (g .walked)
-
-        of : {row : Row ℕ} (by : SolvedBy w q row) → List·Memᴰ (keyOf (w .p) (solution (w .s) (by .R))) (keysOf table rows)
+        of : {row : Row ℕ} (by : SolvedBy w from q row) → List·Memᴰ (keyOf (w .p) (solution (w .s) (by .R))) (keysOf table rows)
         of by =
-            let (r, b, e, m) = in-slot (w .p) table₀ (w .heads) since old (w .chains) old (call (w .s) (by .C)) (omega arith) (by .there) in
-            let done = walk-ends (slotAt table₀) (w .s) old (SolvedRow table₀ slot mask table rows) ended r b e in
+            let (r, b, e, m) = in-slot (w .p) table₀ (w .heads) since old (w .chains) old (call (w .s) (by .C)) (omega arith) (by .there .0) in
+            let behind-link : link ≤ r = omega (arith, late-row (w .p) table₀ from old r (w .s) (by .C) e m (by .there)) in
+            let done = g .walked .done r behind-link b e in
             let same = pass-unique (passes-own w mask q passes (by .C) (done .R) (rw m at (done .together))) (by .passed) in
             Memᴰ·cast (sym (solution-key w (by .R)) ∙ ap (λ (R : ℕ). rowKey slot R) (sym same)) (done .there)

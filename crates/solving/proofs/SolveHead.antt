@@ -31,7 +31,7 @@ pub record HeadFound (p : Program) (table found : List ℕ) (old k : ℕ) : Type
   pub result : (q : ℕ) → q < masks → InSet found q → HeadMark p table 0 old k (length (c .body)) q
 
 -- words say one program, so that what is asked for it is asked for every situation
-pub head-found : {words dir table heads found : List ℕ} {since old k : ℕ} → SolveAsked words dir table heads found since old k
+pub head-found : {words dir table heads found : List ℕ} {since late old k : ℕ} → SolveAsked words dir table heads found since late old k
     → (w : Situation words dir table heads since old) → HeadFound (w .p) table found old k
 head-found {table = table} {found = found} {old = old} {k = k} a w =
     subst (λ (p : Program). HeadFound p table found old k) (sound-same _ (a .situation .setting .accepted) (w .setting .accepted))
@@ -86,5 +86,5 @@ module _ {words dir table heads found : List ℕ} {since old k : ℕ} (w : Situa
       marks-below vars q (λ v o. clause-at .head-variables v .0 (subst (λ (c : Clause). Occ v (c .head)) same (h .kept v .0 o .0)))
 
 -- the same for what is asked
-pub asked-few : {words dir table heads found : List ℕ} {since old k : ℕ} → SolveAsked words dir table heads found since old k → (k < maxDeclared) × (length dir ≡ dirWords)
+pub asked-few : {words dir table heads found : List ℕ} {since late old k : ℕ} → SolveAsked words dir table heads found since late old k → (k < maxDeclared) × (length dir ≡ dirWords)
 asked-few a = clause-few (a .situation) (head-found a (a .situation))

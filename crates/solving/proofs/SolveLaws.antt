@@ -1,6 +1,7 @@
 -- Rule 3 for one call row: marks that pass beside the shape's own, marks kept to the head's variables, and the solution row that they give.
-use Prim.Native.Nat.{ℕ, _<_}
+use Prim.Native.Nat.{ℕ, _≤_, _<_}
 use native.Mathlib.Omega.{arith}
+use native.Mathlib.Decide.{decLt}
 use mathlib.Core.Path.{_≡_, refl, subst}
 use mathlib.Core.Logic.{_⊎_, inl, inr, ⊎-elim, ⊎-map}
 use mathlib.Core.List.{List}
@@ -11,11 +12,13 @@ use Rattle.terms.proofs.Substs.{all-occ, occ-all}
 use Rattle.terms.proofs.Masks.{has-none, marks-for}
 use Rattle.marks.specs.Pass.{Known, Marked, Pass}
 use Rattle.marks.specs.Modes.{modes, Together, Kept}
-use Rattle.program.specs.Program.{Clause}
+use Rattle.program.specs.Program.{Clause, Program}
 use Rattle.program.proofs.ShapeLaws.{nth-same}
 use Rattle.directory.specs.Layout.{maxShapes}
 use Rattle.rows.specs.Rows.{slotAt, maskAt, keysOf, keyOf as rowKey}
+use Rattle.rows.proofs.Keys.{key-listed}
 use Rattle.table.specs.Rules.{call, solution, solves}
+use Rattle.table.specs.NewRows.{New}
 use Rattle.table.specs.Keys.{keyOf, rowAt}
 use Rattle.table.proofs.Keys.{call-at}
 use Rattle.table.proofs.NewRows.{new-reached}
@@ -58,6 +61,15 @@ pass-kept {A} {B} {N} {R} M q kept passed =
         → All (Known A M (passed .α)) (passed .β y) → All (Known A M′ (passed .α)) (passed .β y)
     known-all M M′ same y a =
         occ-all (Known A M′ (passed .α)) (passed .β y) (λ z o. same z (all-occ (Known A M (passed .α)) (passed .β y) a z o))
+
+-- a call row that is not among the first `from` rows stands behind them
+pub late-row : (p : Program) (table : List ℕ) (from old r s C : ℕ) → slotAt table r ≡ s → maskAt table r ≡ C
+    → New modes p (RowsIn p (keysOf table from)) (RowsIn p (keysOf table old)) (call s C) → from ≤ r
+late-row p table from old r s C e m (there, new) = at (decLt r from)
+  where
+    at : Dec (r < from) → from ≤ r
+    at (yes b) = absurd (new (there .0, rw (e, m) at (key-listed table from r b)))
+    at (no b) = omega arith
 
 module _ {table : List ℕ} {since old newest slot : ℕ} (w : ToShape table since old newest slot) where
   pub to-shape-below : w .s < maxShapes

@@ -60,11 +60,14 @@ module _ {table₀ : List ℕ} {since old newest slot : ℕ} (w : ToShape table�
   pub passes-stay : (mask q : ℕ) → PassesTo w mask q → PassesTo to-stays mask q
   passes-stay mask q h = record { marks = head-stays (w .p) table₀ table old n (w .k) _ q behind same (h .marks); passed = h .passed }
 
-  pub solved-stays : (q : ℕ) (row : Row ℕ) → SolvedBy w q row → SolvedBy to-stays q row
-  solved-stays q row h =
+  pub solved-stays : (from q : ℕ) (row : Row ℕ) → from ≤ old → SolvedBy w from q row → SolvedBy to-stays from q row
+  solved-stays from q row l h =
       record {
         C = h .C;
-        there = subst (λ (ks : List ℕ). RowsIn (w .p) ks (call (w .s) (h .C))) (sym (keys-stay table₀ table n old behind same)) (h .there);
+        there = (
+          subst (λ (ks : List ℕ). RowsIn (w .p) ks (call (w .s) (h .C))) (sym (keys-stay table₀ table n old behind same)) (h .there .0),
+          λ o. h .there .1 (subst (λ (ks : List ℕ). RowsIn (w .p) ks (call (w .s) (h .C))) (keys-stay table₀ table n from (omega arith) same) o),
+        );
         R = h .R;
         passed = h .passed;
         is = h .is;
@@ -81,10 +84,10 @@ set-passes w unified found q q′ q″ mask small e in-set e′ marked =
           (rw e′ at marked);
     }
 
-module _ {table₀ : List ℕ} {since old newest slot : ℕ} (w : ToShape table₀ since old newest slot) (found : List ℕ) (round room n : ℕ) (buckets₀ : List ℕ) where
+module _ {table₀ : List ℕ} {since old newest slot : ℕ} (w : ToShape table₀ since old newest slot) (from : ℕ) (found : List ℕ) (round room n : ℕ) (buckets₀ : List ℕ) where
   -- the marks below q were passed to the shape
   abbrev pub Through : ℕ → ℕ → List ℕ → List ℕ → Type 0
-  Through q rows table buckets = Grew (w .p) (keysOf table₀ old) round room n table₀ buckets₀ (Keyed (w .p) (SolvedBelow w found q)) rows table buckets
+  Through q rows table buckets = Grew (w .p) (keysOf table₀ old) round room n table₀ buckets₀ (Keyed (w .p) (SolvedBelow w from found q)) rows table buckets
 
   pub through-begins : Writable table₀ buckets₀ n room → Through 0 n table₀ buckets₀
   through-begins writable =
@@ -94,15 +97,15 @@ module _ {table₀ : List ℕ} {since old newest slot : ℕ} (w : ToShape table�
     -- q is not in the set
     pub through-past : (InSet found q → ⊥) → Through (q + 1) rows table buckets
     through-past out =
-        grew-must (w .p) (keysOf table₀ old) round room n rows table₀ buckets₀ table buckets (Keyed (w .p) (SolvedBelow w found q)) _ (λ key (row, (m, b, i, by), e). at key row m b i by e (ℕ-discrete m q)) g
+        grew-must (w .p) (keysOf table₀ old) round room n rows table₀ buckets₀ table buckets (Keyed (w .p) (SolvedBelow w from found q)) _ (λ key (row, (m, b, i, by), e). at key row m b i by e (ℕ-discrete m q)) g
       where
-        at : (key : ℕ) (row : Row ℕ) (m : ℕ) → m < q + 1 → InSet found m → SolvedBy w m row → key ≡ keyOf (w .p) row → Dec (m ≡ q) → Keyed (w .p) (SolvedBelow w found q) key
+        at : (key : ℕ) (row : Row ℕ) (m : ℕ) → m < q + 1 → InSet found m → SolvedBy w from m row → key ≡ keyOf (w .p) row → Dec (m ≡ q) → Keyed (w .p) (SolvedBelow w from found q) key
         at key row m b i by e (yes d) = absurd (out (rw d at i))
         at key row m b i by e (no d) = (row, (m, omega arith, i, by), e)
 
     -- all that are asked for
     pub through-ends : (marks : ℕ) → q ≡ marks
-        → Stepped (w .p) (keysOf table₀ old) round room n table₀ buckets₀ (Keyed (w .p) (SolvedBelow w found marks)) rows table buckets
+        → Stepped (w .p) (keysOf table₀ old) round room n table₀ buckets₀ (Keyed (w .p) (SolvedBelow w from found marks)) rows table buckets
     through-ends marks e = rw (← e) (inl g)
 
     module _ (behind : old ≤ n) where
@@ -110,24 +113,24 @@ module _ {table₀ : List ℕ} {since old newest slot : ℕ} (w : ToShape table�
       now-there = to-stays w table n behind (g .same-rows) (g .same-length)
 
       module _ (r : ℕ) (table′ buckets′ : List ℕ)
-          (s : Stepped (w .p) (keysOf table old) round room rows table buckets (Keyed (w .p) (SolvedBy now-there q)) r table′ buckets′) where
+          (s : Stepped (w .p) (keysOf table old) round room rows table buckets (Keyed (w .p) (SolvedBy now-there from q)) r table′ buckets′) where
         abbrev Both : ℕ → Type 0
-        Both key = Keyed (w .p) (SolvedBelow w found q) key ⊎ Keyed (w .p) (SolvedBy now-there q) key
+        Both key = Keyed (w .p) (SolvedBelow w from found q) key ⊎ Keyed (w .p) (SolvedBy now-there from q) key
 
         both : Stepped (w .p) (keysOf table₀ old) round room n table₀ buckets₀ Both r table′ buckets′
         both =
-            stepped-then (w .p) (keysOf table₀ old) round room n rows r table₀ buckets₀ table buckets table′ buckets′ (Keyed (w .p) (SolvedBelow w found q)) (Keyed (w .p) (SolvedBy now-there q)) g
-            (subst (λ (ks : List ℕ). Stepped (w .p) ks round room rows table buckets (Keyed (w .p) (SolvedBy now-there q)) r table′ buckets′)
+            stepped-then (w .p) (keysOf table₀ old) round room n rows r table₀ buckets₀ table buckets table′ buckets′ (Keyed (w .p) (SolvedBelow w from found q)) (Keyed (w .p) (SolvedBy now-there from q)) g
+            (subst (λ (ks : List ℕ). Stepped (w .p) ks round room rows table buckets (Keyed (w .p) (SolvedBy now-there from q)) r table′ buckets′)
             (keys-stay table₀ table n old behind (g .same-rows)) s)
 
         pub through-full : {Must : ℕ → Type 0} → room < r → Stepped (w .p) (keysOf table₀ old) round room n table₀ buckets₀ Must r table′ buckets′
         through-full past = inr (stepped-past (w .p) (keysOf table₀ old) round room n r table₀ buckets₀ table′ buckets′ Both both past)
 
-        pub through-on : r ≤ room → Through (q + 1) r table′ buckets′
-        through-on within =
+        pub through-on : from ≤ old → r ≤ room → Through (q + 1) r table′ buckets′
+        through-on within-old within =
             grew-must (w .p) (keysOf table₀ old) round room n r table₀ buckets₀ table′ buckets′ Both _ (λ key (row, (m, b, i, by), e). at key row m b i by e (ℕ-discrete m q))
             (stepped-within (w .p) (keysOf table₀ old) round room n r table₀ buckets₀ table′ buckets′ Both both within)
           where
-            at : (key : ℕ) (row : Row ℕ) (m : ℕ) → m < q + 1 → InSet found m → SolvedBy w m row → key ≡ keyOf (w .p) row → Dec (m ≡ q) → Both key
-            at key row m b i by e (yes d) = inr (row, solved-stays w table n behind (g .same-rows) (g .same-length) q row (rw d at by), e)
+            at : (key : ℕ) (row : Row ℕ) (m : ℕ) → m < q + 1 → InSet found m → SolvedBy w from m row → key ≡ keyOf (w .p) row → Dec (m ≡ q) → Both key
+            at key row m b i by e (yes d) = inr (row, solved-stays w table n behind (g .same-rows) (g .same-length) from q row within-old (rw d at by), e)
             at key row m b i by e (no d) = inl (row, (m, omega arith, i, by), e)

@@ -4,6 +4,7 @@ use mathlib.Core.Path.{_≡_}
 use mathlib.Core.List.{List}
 use lib.ListN.{length, getD}
 use Rattle.terms.specs.Term.{Term}
+use Rattle.marks.specs.Modes.{modes}
 use Rattle.marks.specs.Pass.{Pass}
 use Rattle.marks.specs.Passing.{VariablesOf}
 use Rattle.program.specs.Program.{Nth, Clause, Program}
@@ -11,6 +12,7 @@ use Rattle.program.specs.Shapes.{shapes}
 use Rattle.rows.specs.Rows.{masks, keysOf}
 use Rattle.rows.specs.MaskSet.{setWords, InSet}
 use Rattle.table.specs.Rules.{Row, call, solution}
+use Rattle.table.specs.NewRows.{New}
 use Rattle.table.specs.Keys.{firstSolution}
 use Rattle.steps.specs.Steps.{RowsIn}
 use Rattle.steps.specs.Situation.{Setting, Chains, Unifying}
@@ -38,10 +40,10 @@ pub record PassesTo {table : List ℕ} {since rows newest slot : ℕ} (w : ToSha
   pub marks : HeadMark (w .p) table 0 rows (w .k) (length (w .c .body)) q
   pub passed : Pass (w .c .head) q (w .S) 0 mask
 
--- the solution rows of the shape for marks q, "which keeps the call's own marks"
-pub record SolvedBy {table : List ℕ} {since rows newest slot : ℕ} (w : ToShape table since rows newest slot) (q : ℕ) (row : Row ℕ) : Type 0 where
+-- the solution rows of the shape for marks q and the call rows from row `from` on, "which keeps the call's own marks"
+pub record SolvedBy {table : List ℕ} {since rows newest slot : ℕ} (w : ToShape table since rows newest slot) (from q : ℕ) (row : Row ℕ) : Type 0 where
   pub C : ℕ
-  pub there : RowsIn (w .p) (keysOf table rows) (call (w .s) C)
+  pub there : New modes (w .p) (RowsIn (w .p) (keysOf table from)) (RowsIn (w .p) (keysOf table rows)) (call (w .s) C)
   pub R : ℕ
   pub passed : Pass (w .c .head) q (w .S) C R
   pub is : row ≡ solution (w .s) R
@@ -58,8 +60,8 @@ pub record FoundFor {table : List ℕ} {since rows newest slot : ℕ} (w : ToSha
   pub result : (q : ℕ) → q < masks → InSet found q → HeadMark (w .p) table 0 rows (w .k) (length (w .c .body)) q
 
 -- the solution rows of the shape for the marks below `marks` in the set
-abbrev pub SolvedBelow : {table : List ℕ} {since rows newest slot : ℕ} → ToShape table since rows newest slot → List ℕ → ℕ → Row ℕ → Type 0
-SolvedBelow w found marks row = (q : ℕ) × (q < marks) × InSet found q × SolvedBy w q row
+abbrev pub SolvedBelow : {table : List ℕ} {since rows newest slot : ℕ} → ToShape table since rows newest slot → ℕ → List ℕ → ℕ → Row ℕ → Type 0
+SolvedBelow w from found marks row = (q : ℕ) × (q < marks) × InSet found q × SolvedBy w from q row
 
 -- what is asked before the call rows of a shape are gone through
 pub record CallsAsked (table : List ℕ) (since rows newest slot mask : ℕ) : Type 0 where
@@ -68,8 +70,9 @@ pub record CallsAsked (table : List ℕ) (since rows newest slot mask : ℕ) : T
   pub passes : PassesTo to mask q
 
 -- what is asked before the marks in the set go to a shape
-pub record ShapeAsked (table sets found : List ℕ) (since rows newest slot here there marks : ℕ) : Type 0 where
+pub record ShapeAsked (table sets found : List ℕ) (since from rows newest slot here there marks : ℕ) : Type 0 where
   pub to : ToShape table since rows newest slot
   pub shape-sets : ShapeSets to sets here there
   pub found-for : FoundFor to found
   pub few : marks ≤ masks
+  pub from-within : from ≤ rows

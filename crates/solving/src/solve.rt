@@ -25,7 +25,7 @@ ghost use Rattle.steps.specs.Steps.{Writable, Stepped};
 ghost use Rattle.steps.specs.Heads.{Solved, SolveAsked};
 ghost use Rattle.solving.specs.Solving.{ToShape, PassesTo, SolvedBy, SolvedBelow, ShapeSets, FoundFor, CallsAsked, ShapeAsked};
 
-// All call rows of one shape keep their own marks beside those that the head passes.
+// All call rows of one shape, from row `from` on, keep their own marks beside those that the head passes.
 fn solve_calls(
     table: &mut [u16],
     buckets: &mut [u16],
@@ -34,17 +34,18 @@ fn solve_calls(
     newest: usize,
     slot: u16,
     mask: u16,
+    from: usize,
 ) -> usize
     requires { ⌜ CallsAsked (now table) (at .since) (at .rows) newest slot mask × Writable (now table) (now buckets) n (at .room) × (at .rows ≤ n) ⌝ }
     ensures { λ r. ⌜ ((w : ToShape (now (table .entry)) (at .since) (at .rows) newest slot) (q : ℕ) → PassesTo w mask q
         → Stepped (w .p) (keysOf (now (table .entry)) (at .rows)) (at .number) (at .room) n (now (table .entry)) (now (buckets .entry))
-        (Keyed (w .p) (SolvedBy w q)) r (now (table .exit)) (now (buckets .exit))) ⌝ }
+        (Keyed (w .p) (SolvedBy w from q)) r (now (table .exit)) (now (buckets .exit))) ⌝ }
 {
     let number = at.number;
     let room = at.room;
     let mut rows = n;
     let mut link = newest;
-    while 0 < link {
+    while from < link {
         let row = link - 1;
         let own = mask_at(table, row);
         rows = add(
@@ -77,11 +78,12 @@ fn solve_shape(
     there: u16,
     found: &[u16],
     marks: usize,
+    from: usize,
 ) -> usize
-    requires { ⌜ ShapeAsked (now table) (now sets) (now found) (at .since) (at .rows) newest slot here there marks × Writable (now table) (now buckets) n (at .room) × (at .rows ≤ n) ⌝ }
+    requires { ⌜ ShapeAsked (now table) (now sets) (now found) (at .since) from (at .rows) newest slot here there marks × Writable (now table) (now buckets) n (at .room) × (at .rows ≤ n) ⌝ }
     ensures { λ r. ⌜ ((w : ToShape (now (table .entry)) (at .since) (at .rows) newest slot) → ShapeSets w (now (sets .entry)) here there → FoundFor w (now (found .entry))
         → Stepped (w .p) (keysOf (now (table .entry)) (at .rows)) (at .number) (at .room) n (now (table .entry)) (now (buckets .entry))
-        (Keyed (w .p) (SolvedBelow w (now (found .entry)) marks)) r (now (table .exit)) (now (buckets .exit))) ⌝ }
+        (Keyed (w .p) (SolvedBelow w from (now (found .entry)) marks)) r (now (table .exit)) (now (buckets .exit))) ⌝ }
 {
     let room = at.room;
     let mut rows = n;
@@ -89,7 +91,7 @@ fn solve_shape(
     while q < marks {
         if contains(found, narrow(q)) {
             let r = passed(sets, 16, narrow(q), there, 0, here);
-            rows = solve_calls(table, buckets, rows, at, newest, slot, r);
+            rows = solve_calls(table, buckets, rows, at, newest, slot, r, from);
             if room < rows {
                 return rows;
             }
@@ -99,7 +101,7 @@ fn solve_shape(
     rows
 }
 
-// The marks on the head of clause k, to every shape that has a call row.
+// The marks on the head of clause k, to every shape that has a call row from row `from` on.
 pub fn solve<'a>(
     words: &'a [u16],
     dir: &'a [u16],
@@ -110,11 +112,12 @@ pub fn solve<'a>(
     at: Round,
     k: usize,
     found: &[u16],
+    from: usize,
 ) -> usize
-    requires { ⌜ SolveAsked (now words) (now dir) (now table) (now heads) (now found) (at .since) (at .rows) k × Writable (now table) (now buckets) n (at .room) × (at .rows ≤ n) ⌝ }
+    requires { ⌜ SolveAsked (now words) (now dir) (now table) (now heads) (now found) (at .since) from (at .rows) k × Writable (now table) (now buckets) n (at .room) × (at .rows ≤ n) ⌝ }
     ensures { λ r. ⌜ ((w : Situation (now (words .entry)) (now (dir .entry)) (now (table .entry)) (now (heads .entry)) (at .since) (at .rows))
         → Stepped (w .p) (keysOf (now (table .entry)) (at .rows)) (at .number) (at .room) n (now (table .entry)) (now (buckets .entry))
-        (Keyed (w .p) (Solved (w .p) (now (table .entry)) (at .rows) k (now (found .entry)))) r (now (table .exit)) (now (buckets .exit))) ⌝ }
+        (Keyed (w .p) (Solved (w .p) (now (table .entry)) from (at .rows) k (now (found .entry)))) r (now (table .exit)) (now (buckets .exit))) ⌝ }
 {
     let room = at.room;
     let start = wide(dir[CLAUSE_HEAD + k]);
@@ -128,7 +131,7 @@ pub fn solve<'a>(
     while 0 < link {
         let s = link - 1;
         let newest = wide(heads[s]);
-        if 0 < newest {
+        if from < newest {
             if meet(words, dir, s, start, cells, &mut sets) {
                 let here = first_variables(wide(dir[SHAPE_VARS + s]));
                 let slot = narrow(SOLUTIONS + s);
@@ -144,6 +147,7 @@ pub fn solve<'a>(
                     there,
                     found,
                     marks,
+                    from,
                 );
                 if room < rows {
                     return rows;

@@ -3,6 +3,7 @@
 use native.Mathlib.Omega.{arith}
 use borrow.Author.Needs.{needs}
 use mathlib.Core.Path.{_≡_, refl, _∙_}
+use mathlib.Core.Logic.{⊎-elim}
 use lib.ListN.{length}
 use Rattle.steps.specs.Situation.{Situation, ClauseOf}
 use Rattle.steps.proofs.ShapeLinks.{shapesLeft}
@@ -12,12 +13,12 @@ use Rattle.calling.proofs.calls.mark_head.Statement.{statement}
 use Rattle.calling.proofs.calls.mark_head.Tie as tie
 
 abbrev Inv-loop : tie.InvT-loop
-Inv-loop words dir table heads since k found₀ rows start cells there link₀ found link =
+Inv-loop words dir table heads since k found₀ rows start cells there any₀ link₀ found any link =
     (length found ≡ length found₀)
-    × ((w : Situation words dir table heads since rows) (b : ClauseOf (w .p) k) → HeadVisiting w b found₀ start cells there link found)
+    × ((w : Situation words dir table heads since rows) (b : ClauseOf (w .p) k) → HeadVisiting w b found₀ start cells there link found any)
 
 abbrev μ-loop : tie.MeasureT-loop
-μ-loop words dir table heads since k found₀ rows start cells there link₀ found link = shapesLeft link
+μ-loop words dir table heads since k found₀ rows start cells there any₀ link₀ found any link = shapesLeft link
 
 add-wide : tie.Need-add-wide Inv-loop μ-loop
 add-wide c = let few = asked-head-in-dir (c .before .before .before .before .before .pre .0) in omega (arith, few .0, few .1)
@@ -111,34 +112,36 @@ marks-of-shape-requires c κs =
 
 add-wide-5 : tie.Need-add-wide-5 Inv-loop μ-loop
 add-wide-5 c =
-    let a = c .before .before .before .before .before .before .before .before .before .before .before .before .before .before .before .before .before .before .before .before .before .before .pre .0 in
-    omega (arith, head-few (a .situation) (a .clause) _ _ _ _ (c .before .before .before .before .before .loop .inv .1 (a .situation) (a .clause)) (c .before .before .before .before .loop-test .taken))
+    let a = c .before .before .before .before .before .before .before .before .before .before .before .before .before .before .before .before .before .before .before .before .before .before .before .pre .0 in
+    omega (arith, head-few (a .situation) (a .clause) _ _ _ _ (c .before .before .before .before .before .before .loop .inv .1 (a .situation) (a .clause)) (c .before .before .before .before .before .loop-test .taken))
 
 mul-wide-6 : tie.Need-mul-wide-6 Inv-loop μ-loop
 mul-wide-6 c =
-    let a = c .before .before .before .before .before .before .before .before .before .before .before .before .before .before .before .before .before .before .before .before .before .before .pre .0 in
-    omega (arith, head-few (a .situation) (a .clause) _ _ _ _ (c .before .before .before .before .before .loop .inv .1 (a .situation) (a .clause)) (c .before .before .before .before .loop-test .taken))
+    let a = c .before .before .before .before .before .before .before .before .before .before .before .before .before .before .before .before .before .before .before .before .before .before .before .pre .0 in
+    omega (arith, head-few (a .situation) (a .clause) _ _ _ _ (c .before .before .before .before .before .before .loop .inv .1 (a .situation) (a .clause)) (c .before .before .before .before .before .loop-test .taken))
 
 shared-slice-read-wide-6 : tie.Need-shared-slice-read-wide-6 Inv-loop μ-loop
 shared-slice-read-wide-6 c =
-    let a = c .before .before .before .before .before .before .before .before .before .before .before .before .before .before .before .before .before .before .before .before .before .before .before .pre .0 in
-    omega (arith, head-few (a .situation) (a .clause) _ _ _ _ (c .before .before .before .before .before .before .loop .inv .1 (a .situation) (a .clause)) (c .before .before .before .before .before .loop-test .taken), asked-head-in-dir a .1)
+    let a = c .before .before .before .before .before .before .before .before .before .before .before .before .before .before .before .before .before .before .before .before .before .before .before .before .pre .0 in
+    omega (arith, head-few (a .situation) (a .clause) _ _ _ _ (c .before .before .before .before .before .before .before .loop .inv .1 (a .situation) (a .clause)) (c .before .before .before .before .before .before .loop-test .taken), asked-head-in-dir a .1)
 
 wide-requires-6 : tie.Need-wide-requires-6 Inv-loop μ-loop
 wide-requires-6 c κs = search needs
 
 loop-less : tie.Need-loop-less Inv-loop μ-loop
 loop-less c =
-    let a = c .before .before .before .before .before .before .before .before .before .before .before .before .before .before .before .before .before .before .before .before .before .before .before .before .pre .0 in
-    head-nearer (a .situation) (a .clause) _ _ _ _ (c .before .before .before .before .before .before .before .loop .inv .1 (a .situation) (a .clause)) (c .before .before .before .before .before .before .loop-test .taken) _ (c .wide6 .ensures .0)
+    let a = c .before .before .before .before .before .before .before .before .before .before .before .before .before .before .before .before .before .before .before .before .before .before .before .before .before .pre .0 in
+    head-nearer (a .situation) (a .clause) _ _ _ _ (c .before .before .before .before .before .before .before .before .loop .inv .1 (a .situation) (a .clause)) (c .before .before .before .before .before .before .before .loop-test .taken) _ (c .wide6 .ensures .0)
 
 loop-again : tie.Need-loop-again Inv-loop μ-loop
 loop-again c = (
-  c .before .before .before .before .marks-of-shape .kept .1 .1 .1 .1 .1 .1 .1 .1 .1 .0 ∙ c .before .before .before .before .before .before .before .loop .inv .0,
+  c .before .before .before .before .before .marks-of-shape .kept .1 .1 .1 .1 .1 .1 .1 .1 .1 .0 ∙ c .before .before .before .before .before .before .before .before .loop .inv .0,
   λ w b.
-      let v = c .before .before .before .before .before .before .before .loop .inv .1 w b in
-      head-on w b _ _ _ _ v (c .before .before .before .before .before .before .loop-test .taken)
-      (c .before .before .before .before .marks-of-shape .ensures (head-shape w b _ _ _ _ v (c .before .before .before .before .before .before .loop-test .taken))) _ (c .wide6 .ensures .0),
+      let v = c .before .before .before .before .before .before .before .before .loop .inv .1 w b in
+      let some = c .before .before .before .before .before .before .before .loop-test .taken in
+      let (marked, told) = c .before .before .before .before .before .marks-of-shape .ensures (head-shape w b _ _ _ _ v some) in
+      head-on w b _ _ _ _ v some marked (⊎-elim (λ z t. rw (z .1) tt) (λ z t. rw (z .1) t) (c .before .before .if1 .came))
+      (λ N o. ⊎-elim (λ z. rw (z .1) tt) (λ z. absurd (rw (z .0 .left) at (told N o))) (c .before .before .if1 .came)) _ (c .wide6 .ensures .0),
 )
 
 same-length : tie.Need-same-length Inv-loop μ-loop

@@ -18,15 +18,18 @@ wide-requires : tie.Need-wide-requires
 wide-requires c κs = search needs
 
 returns : tie.Need-returns
-returns c = λ a. marked-none _ (c .before .before .before .before .before .before .before .before .pre .1) (opened-old (a .shape) _ (c .before .wide .ensures .0) (c .if1 .taken))
+returns c = λ a.
+    let none = opened-old (a .shape) _ (c .before .wide .ensures .0) (c .if1 .taken) in
+    (marked-none _ (c .before .before .before .before .before .before .before .before .pre .1) none, λ N o. absurd (none N o))
 
 meet-requires : tie.Need-meet-requires
 meet-requires c κs = shape-meeting (c .before .before .before .before .before .before .before .before .before .pre .0 .shape)
 
 returns-2 : tie.Need-returns-2
 returns-2 c =
-    λ a. marked-none _ (c .before .before .before .before .before .before .before .before .before .before .before .pre .1)
-    (opened-apart (a .shape) (rw (not-true (c .before .meet .result) (c .if2 .taken)) at (c .before .meet .ensures (shape-meeting (a .shape)))))
+    λ a.
+    let none = opened-apart (a .shape) (rw (not-true (c .before .meet .result) (c .if2 .taken)) at (c .before .meet .ensures (shape-meeting (a .shape)))) in
+    (marked-none _ (c .before .before .before .before .before .before .before .before .before .before .before .pre .1) none, λ N o. absurd (none N o))
 
 add-wide : tie.Need-add-wide
 add-wide c = omega (arith, shape-in-dir (c .before .before .before .before .before .before .before .before .before .before .before .pre .0 .shape) .0)
@@ -57,10 +60,12 @@ same-length c = search needs
 
 returns-3 : tie.Need-returns-3
 returns-3 c =
-    λ a.
-    c .before .before .mark-shape .ensures (mark-calls a _ _ _ (c .before .before .before .before .before .before .before .before .before .before .before .before .wide .ensures .0)
-    (rw (not-false (c .before .before .before .before .before .before .before .before .before .meet .result) (c .before .before .before .before .before .before .before .before .if2 .left)) at (c .before .before .before .before .before .before .before .before .before .meet .ensures (shape-meeting (a .shape))))
-    (c .before .before .before .before .before .first-variables .ensures .0) (rw (c .before .before .before .before .before .before .wide2 .ensures .0) at (c .before .before .before .before .before .first-variables .ensures .1)))
+    λ a. (
+      c .before .before .mark-shape .ensures (mark-calls a _ _ _ (c .before .before .before .before .before .before .before .before .before .before .before .before .wide .ensures .0)
+          (rw (not-false (c .before .before .before .before .before .before .before .before .before .meet .result) (c .before .before .before .before .before .before .before .before .if2 .left)) at (c .before .before .before .before .before .before .before .before .before .meet .ensures (shape-meeting (a .shape))))
+          (c .before .before .before .before .before .first-variables .ensures .0) (rw (c .before .before .before .before .before .before .wide2 .ensures .0) at (c .before .before .before .before .before .first-variables .ensures .1))),
+      λ N o. tt,
+    )
 
 pub marks-of-shape-spec : {M : Type 1} → statement M
 marks-of-shape-spec =

@@ -1,8 +1,11 @@
 -- `last_place` meets its contract: what the place's cont rows make with the answers is what rule 2 makes with a new row. Assumes nothing.
 use native.Mathlib.Omega.{arith}
 use borrow.Author.Needs.{needs}
+use Prim.Native.Nat.{ℕ, suc}
 use mathlib.Core.Path.{sym, _∙_}
-use Rattle.joining.proofs.PlaceSteps.{slot-there, no-head-marks, conts-there, head-marked}
+use Rattle.steps.specs.Heads.{HeadMark}
+use Rattle.steps.proofs.MarkedSets.{marked-none}
+use Rattle.joining.proofs.PlaceSteps.{slot-there, no-head-marks, no-answer, conts-there, head-marked}
 use Rattle.joining.proofs.joins.last_place.Statement.{statement}
 use Rattle.joining.proofs.joins.last_place.Tie as tie
 
@@ -20,17 +23,15 @@ wide-requires c κs = search needs
 
 returns : tie.Need-returns
 returns c =
-    let s = c .before .before .before .before .before .before .before .before .before .before in
-    (s .pre .2, λ w b. no-head-marks w b _ (s .pre .1) (sym (c .before .wide .ensures .0) ∙ c .if1 .taken))
+    let s = c .before .before .before .before .before .before .before .before .before .before in (
+      s .pre .2,
+      λ w b.
+          let none = no-head-marks w b (sym (c .before .wide .ensures .0) ∙ c .if1 .taken) in
+          (marked-none _ (s .pre .1) none, λ q h. absurd (none q h)),
+    )
 
 list-answers-requires : tie.Need-list-answers-requires
 list-answers-requires c κs = search needs
-
-mark-conts-requires : tie.Need-mark-conts-requires
-mark-conts-requires c κs =
-    let s = c .before .before .before .before .before .before .before .before .before .before .before .before .before .before .before .before .before .before .before in
-    let m = s .pre .0 in
-    (rw (c .before .before .before .before .before .before .before .before .before .before .wide .ensures .0) (conts-there (m .situation) (m .body) _ _ _ (c .before .before .before .before .before .before .list-answers .ensures .1)), s .pre .1)
 
 same-length : tie.Need-same-length
 same-length c = search needs
@@ -38,19 +39,42 @@ same-length c = search needs
 same-length-2 : tie.Need-same-length-2
 same-length-2 c = search needs
 
+returns-2 : tie.Need-returns-2
+returns-2 c =
+    let listed = c .before .before .before .before .before .list-answers .ensures in (
+      listed .0,
+      λ w b.
+          let a = rw (c .before .before .before .before .before .before .before .before .before .wide .ensures .0) at (listed .2 w b) in
+          let none : (q : ℕ) → HeadMark (w .p) (c .before .before .before .before .before .before .before .before .before .before .before .before .before .before .before .before .before .before .args .table .now) (c .before .before .before .before .before .before .before .before .before .before .before .before .before .before .before .before .before .before .args .since) (c .before .before .before .before .before .before .before .before .before .before .before .before .before .before .before .before .before .before .args .before) (b .k) (suc (b .i)) q → ⊥ =
+          λ q h. no-answer w b _ _ _ (listed .1) a (c .if2 .taken) (h .N) (h .reached) in
+          (marked-none _ (c .before .before .before .before .before .before .before .before .before .before .before .before .before .before .before .before .before .before .pre .1) none, λ q h. absurd (none q h)),
+    )
+
+mark-conts-requires : tie.Need-mark-conts-requires
+mark-conts-requires c κs =
+    let s = c .before .before .before .before .before .before .before .before .before .before .before .before .before .before .before .before .before .before .before .before in
+    let m = s .pre .0 in
+    (rw (c .before .before .before .before .before .before .before .before .before .before .before .wide .ensures .0) (conts-there (m .situation) (m .body) _ _ _ (c .before .before .before .before .before .before .before .list-answers .ensures .1)), s .pre .1)
+
 same-length-3 : tie.Need-same-length-3
 same-length-3 c = search needs
 
-returns-2 : tie.Need-returns-2
-returns-2 c =
-    let s = c .before .before .before .before .before .before .before .before .before .before .before .before .before .before .before .before .before .before .before .before .before .before in
-    let listed = c .before .before .before .before .before .before .before .before .before .list-answers .ensures in
-    let newest = c .before .before .before .before .before .before .before .before .before .before .before .before .before .wide .ensures .0 in (
+same-length-4 : tie.Need-same-length-4
+same-length-4 c = search needs
+
+same-length-5 : tie.Need-same-length-5
+same-length-5 c = search needs
+
+returns-3 : tie.Need-returns-3
+returns-3 c =
+    let s = c .before .before .before .before .before .before .before .before .before .before .before .before .before .before .before .before .before .before .before .before .before .before .before in
+    let listed = c .before .before .before .before .before .before .before .before .before .before .list-answers .ensures in
+    let newest = c .before .before .before .before .before .before .before .before .before .before .before .before .before .before .wide .ensures .0 in (
       listed .0,
       λ w b.
           let a = rw newest at (listed .2 w b) in
           let marked = (rw newest at (c .before .before .mark-conts .ensures)) (conts-there w b _ _ _ (listed .1)) in
-          head-marked w b _ _ _ (listed .1) a _ _ _ (s .pre .0) marked,
+          (head-marked w b _ _ _ (listed .1) a _ _ _ (s .pre .0) marked, λ q h. tt),
     )
 
 pub last-place-spec : {M : Type 1} → statement M
@@ -63,8 +87,11 @@ last-place-spec =
     wide-requires
     returns
     list-answers-requires
-    mark-conts-requires
     same-length
     same-length-2
+    returns-2
+    mark-conts-requires
     same-length-3
-    returns-2)
+    same-length-4
+    same-length-5
+    returns-3)

@@ -18,12 +18,12 @@ shifted : (n m : ℕ) → n ≡ m → m ≤ 16 → 1 * 2 ^ n % 18446744073709551
 shifted n m e h = rw (e, one-mul) (mod-eq-of-lt (pow-lt {j = 64} (omega arith)))
 
 abbrev Inv-loop : tie.InvT-loop
-Inv-loop words dir table₀ buckets₀ heads n at k found room start cells vars there marks sets₀ rows₀ link₀ table buckets sets rows link =
+Inv-loop words dir table₀ buckets₀ heads n at k found from room start cells vars there marks sets₀ rows₀ link₀ table buckets sets rows link =
     (w : Situation words dir table₀ heads (at .since) (at .rows)) (f : HeadFound (w .p) table₀ found (at .rows) k)
-    → Along (w .p) table₀ found (at .rows) (f .c .head) (at .number) (at .room) n buckets₀ link rows table buckets
+    → Along (w .p) table₀ found from (at .rows) (f .c .head) (at .number) (at .room) n buckets₀ link rows table buckets
 
 abbrev μ-loop : tie.MeasureT-loop
-μ-loop words dir table₀ buckets₀ heads n at k found room start cells vars there marks sets₀ rows₀ link₀ table buckets sets rows link = shapesLeft link
+μ-loop words dir table₀ buckets₀ heads n at k found from room start cells vars there marks sets₀ rows₀ link₀ table buckets sets rows link = shapesLeft link
 
 add-wide : tie.Need-add-wide Inv-loop μ-loop
 add-wide c = omega (arith, asked-few (c .before .before .before .before .before .before .pre .0) .0)
@@ -105,7 +105,7 @@ wide-requires-5 : tie.Need-wide-requires-5 Inv-loop μ-loop
 wide-requires-5 c κs = tt
 
 loop-holds : tie.Need-loop-holds Inv-loop μ-loop
-loop-holds c = λ w f. rw (c .wide5 .ensures .0, c .before .before .wide4 .ensures .0, c .before .before .before .before .before .before .before .before .before .wide .ensures .0) (along-begins w f _ _ _ _ (c .before .before .before .before .before .before .before .before .before .before .before .before .before .before .before .before .before .pre .1))
+loop-holds c = λ w f. rw (c .wide5 .ensures .0, c .before .before .wide4 .ensures .0, c .before .before .before .before .before .before .before .before .before .wide .ensures .0) (along-begins _ (c .before .before .before .before .before .before .before .before .before .before .before .before .before .before .before .before .before .pre .0 .from-within) w f _ _ _ _ (c .before .before .before .before .before .before .before .before .before .before .before .before .before .before .before .before .before .pre .1))
 
 sub-s : tie.Need-sub-s Inv-loop μ-loop
 sub-s c = omega (arith, c .loop-test .taken)
@@ -124,7 +124,7 @@ meet-requires c κs =
     let asked = c .before .before .before .before .before .before .before .before .before .before .before .before .before .before .before .before .before .before .before .before .before .before .before .pre .0 in
     let w = asked .situation in
     let f = head-found asked w in
-    head-meets w f _ _ _ _ (c .before .before .before .before .before .loop .inv w f) (c .before .before .before .before .loop-test .taken) _ _ (c .before .before .before .before .before .before .before .before .before .before .before .before .before .before .before .wide .ensures .0) (c .before .before .before .before .before .before .before .before .before .before .before .before .before .wide2 .ensures .0)
+    head-meets _ (c .before .before .before .before .before .before .before .before .before .before .before .before .before .before .before .before .before .before .before .before .before .before .before .pre .0 .from-within) w f _ _ _ _ (c .before .before .before .before .before .loop .inv w f) (c .before .before .before .before .loop-test .taken) _ _ (c .before .before .before .before .before .before .before .before .before .before .before .before .before .before .before .wide .ensures .0) (c .before .before .before .before .before .before .before .before .before .before .before .before .before .wide2 .ensures .0)
 
 add-wide-5 : tie.Need-add-wide-5 Inv-loop μ-loop
 add-wide-5 c = omega (arith, asked-shape (c .before .before .before .before .before .before .before .before .before .before .before .before .before .before .before .before .before .before .before .before .before .before .before .before .before .pre .0) (c .before .before .before .before .before .before .before .loop .inv) (c .before .before .before .before .before .before .loop-test .taken))
@@ -143,7 +143,7 @@ first-variables-requires-2 c κs =
     let asked = c .before .before .before .before .before .before .before .before .before .before .before .before .before .before .before .before .before .before .before .before .before .before .before .before .before .before .before .pre .0 in
     let w = asked .situation in
     let f = head-found asked w in
-    rw (c .wide7 .ensures .0) (shape-variables-few w f _ _ _ _ (c .before .before .before .before .before .before .before .before .before .loop .inv w f) (c .before .before .before .before .before .before .before .before .loop-test .taken))
+    rw (c .wide7 .ensures .0) (shape-variables-few _ (c .before .before .before .before .before .before .before .before .before .before .before .before .before .before .before .before .before .before .before .before .before .before .before .before .before .before .before .pre .0 .from-within) w f _ _ _ _ (c .before .before .before .before .before .before .before .before .before .loop .inv w f) (c .before .before .before .before .before .before .before .before .loop-test .taken))
 
 add-narrow : tie.Need-add-narrow Inv-loop μ-loop
 add-narrow c = omega (arith, asked-shape (c .before .before .before .before .before .before .before .before .before .before .before .before .before .before .before .before .before .before .before .before .before .before .before .before .before .before .before .before .pre .0) (c .before .before .before .before .before .before .before .before .before .before .loop .inv) (c .before .before .before .before .before .before .before .before .before .loop-test .taken))
@@ -159,8 +159,8 @@ solve-shape-requires c κs =
     let a = c .before .before .before .before .before .before .before .before .before .before .before .before .before .before .loop .inv w f in
     let h = c .before .before .before .before .before .before .before .before .before .before .before .before .before .loop-test .taken in
     let l = c .before .before .before .before .before .before .before .before .before .before .before .before .before .before .before .before .before .before .before .before .before .before .before .before .before .before .before .before .before .before .before .before .pre .2 in
-    let sets = sets-now w f _ _ _ _ a h l (c .before .before .before .before .before .before .before .before .before .before .before .wide6 .ensures .0) (c .before .before .before .narrow .ensures) (rw (c .before .before .before .before .before .before .before .if2 .taken) at (c .before .before .before .before .before .before .before .before .meet .ensures (head-meets w f _ _ _ _ a h _ _ (c .before .before .before .before .before .before .before .before .before .before .before .before .before .before .before .before .before .before .before .before .before .before .before .before .wide .ensures .0) (c .before .before .before .before .before .before .before .before .before .before .before .before .before .before .before .before .before .before .before .before .before .before .wide2 .ensures .0)))) (rw (c .before .before .before .before .before .wide7 .ensures .0) at (c .before .before .before .before .first-variables2 .ensures)) (rw (c .before .before .before .before .before .before .before .before .before .before .before .before .before .before .before .before .before .before .before .before .wide3 .ensures .0) at (c .before .before .before .before .before .before .before .before .before .before .before .before .before .before .before .before .before .before .before .first-variables .ensures)) in
-    (shape-asked w f _ _ _ _ a h l (c .before .before .before .before .before .before .before .before .before .before .before .wide6 .ensures .0) (c .before .before .before .narrow .ensures) sets (shifted _ _ (c .before .before .before .before .before .before .before .before .before .before .before .before .before .before .before .before .before .before .before .before .wide3 .ensures .0) (vars-few w f)), a .grew .writable, omega (arith, l, a .grew .more))
+    let sets = sets-now _ (c .before .before .before .before .before .before .before .before .before .before .before .before .before .before .before .before .before .before .before .before .before .before .before .before .before .before .before .before .before .before .before .before .pre .0 .from-within) w f _ _ _ _ a h l (c .before .before .before .before .before .before .before .before .before .before .before .wide6 .ensures .0) (c .before .before .before .narrow .ensures) (rw (c .before .before .before .before .before .before .before .if2 .taken) at (c .before .before .before .before .before .before .before .before .meet .ensures (head-meets _ (c .before .before .before .before .before .before .before .before .before .before .before .before .before .before .before .before .before .before .before .before .before .before .before .before .before .before .before .before .before .before .before .before .pre .0 .from-within) w f _ _ _ _ a h _ _ (c .before .before .before .before .before .before .before .before .before .before .before .before .before .before .before .before .before .before .before .before .before .before .before .before .wide .ensures .0) (c .before .before .before .before .before .before .before .before .before .before .before .before .before .before .before .before .before .before .before .before .before .before .wide2 .ensures .0)))) (rw (c .before .before .before .before .before .wide7 .ensures .0) at (c .before .before .before .before .first-variables2 .ensures)) (rw (c .before .before .before .before .before .before .before .before .before .before .before .before .before .before .before .before .before .before .before .before .wide3 .ensures .0) at (c .before .before .before .before .before .before .before .before .before .before .before .before .before .before .before .before .before .before .before .first-variables .ensures)) in
+    (shape-asked _ (c .before .before .before .before .before .before .before .before .before .before .before .before .before .before .before .before .before .before .before .before .before .before .before .before .before .before .before .before .before .before .before .before .pre .0 .from-within) w f _ _ _ _ a h l (c .before .before .before .before .before .before .before .before .before .before .before .wide6 .ensures .0) (c .before .before .before .narrow .ensures) sets (shifted _ _ (c .before .before .before .before .before .before .before .before .before .before .before .before .before .before .before .before .before .before .before .before .wide3 .ensures .0) (vars-few w f)), a .grew .writable, omega (arith, l, a .grew .more))
 
 same-length : tie.Need-same-length Inv-loop μ-loop
 same-length c =
@@ -182,8 +182,8 @@ returns c = λ w.
     let a = c .before .before .before .before .before .before .before .before .before .before .before .before .before .before .before .before .before .before .before .before .loop .inv w f in
     let h = c .before .before .before .before .before .before .before .before .before .before .before .before .before .before .before .before .before .before .before .loop-test .taken in
     let l = c .before .before .before .before .before .before .before .before .before .before .before .before .before .before .before .before .before .before .before .before .before .before .before .before .before .before .before .before .before .before .before .before .before .before .before .before .before .before .pre .2 in
-    let sets = sets-now w f _ _ _ _ a h l (c .before .before .before .before .before .before .before .before .before .before .before .before .before .before .before .before .before .wide6 .ensures .0) (c .before .before .before .before .before .before .before .before .before .narrow .ensures) (rw (c .before .before .before .before .before .before .before .before .before .before .before .before .before .if2 .taken) at (c .before .before .before .before .before .before .before .before .before .before .before .before .before .before .meet .ensures (head-meets w f _ _ _ _ a h _ _ (c .before .before .before .before .before .before .before .before .before .before .before .before .before .before .before .before .before .before .before .before .before .before .before .before .before .before .before .before .before .before .wide .ensures .0) (c .before .before .before .before .before .before .before .before .before .before .before .before .before .before .before .before .before .before .before .before .before .before .before .before .before .before .before .before .wide2 .ensures .0)))) (rw (c .before .before .before .before .before .before .before .before .before .before .before .wide7 .ensures .0) at (c .before .before .before .before .before .before .before .before .before .before .first-variables2 .ensures)) (rw (c .before .before .before .before .before .before .before .before .before .before .before .before .before .before .before .before .before .before .before .before .before .before .before .before .before .before .wide3 .ensures .0) at (c .before .before .before .before .before .before .before .before .before .before .before .before .before .before .before .before .before .before .before .before .before .before .before .before .before .first-variables .ensures)) in
-    along-full w f _ _ _ _ a h l (c .before .before .before .before .before .before .before .before .before .before .before .before .before .before .before .before .before .wide6 .ensures .0) (c .before .before .before .before .before .before .before .before .before .narrow .ensures) (c .before .before .before .before .before .solve-shape .ensures (to-now w f _ _ _ _ a h l (c .before .before .before .before .before .before .before .before .before .before .before .before .before .before .before .before .before .wide6 .ensures .0) (c .before .before .before .before .before .before .before .before .before .narrow .ensures)) sets (found-now w f _ _ _ _ a h l (c .before .before .before .before .before .before .before .before .before .before .before .before .before .before .before .before .before .wide6 .ensures .0) (c .before .before .before .before .before .before .before .before .before .narrow .ensures))) (c .if3 .taken)
+    let sets = sets-now _ (c .before .before .before .before .before .before .before .before .before .before .before .before .before .before .before .before .before .before .before .before .before .before .before .before .before .before .before .before .before .before .before .before .before .before .before .before .before .before .pre .0 .from-within) w f _ _ _ _ a h l (c .before .before .before .before .before .before .before .before .before .before .before .before .before .before .before .before .before .wide6 .ensures .0) (c .before .before .before .before .before .before .before .before .before .narrow .ensures) (rw (c .before .before .before .before .before .before .before .before .before .before .before .before .before .if2 .taken) at (c .before .before .before .before .before .before .before .before .before .before .before .before .before .before .meet .ensures (head-meets _ (c .before .before .before .before .before .before .before .before .before .before .before .before .before .before .before .before .before .before .before .before .before .before .before .before .before .before .before .before .before .before .before .before .before .before .before .before .before .before .pre .0 .from-within) w f _ _ _ _ a h _ _ (c .before .before .before .before .before .before .before .before .before .before .before .before .before .before .before .before .before .before .before .before .before .before .before .before .before .before .before .before .before .before .wide .ensures .0) (c .before .before .before .before .before .before .before .before .before .before .before .before .before .before .before .before .before .before .before .before .before .before .before .before .before .before .before .before .wide2 .ensures .0)))) (rw (c .before .before .before .before .before .before .before .before .before .before .before .wide7 .ensures .0) at (c .before .before .before .before .before .before .before .before .before .before .first-variables2 .ensures)) (rw (c .before .before .before .before .before .before .before .before .before .before .before .before .before .before .before .before .before .before .before .before .before .before .before .before .before .before .wide3 .ensures .0) at (c .before .before .before .before .before .before .before .before .before .before .before .before .before .before .before .before .before .before .before .before .before .before .before .before .before .first-variables .ensures)) in
+    along-full _ (c .before .before .before .before .before .before .before .before .before .before .before .before .before .before .before .before .before .before .before .before .before .before .before .before .before .before .before .before .before .before .before .before .before .before .before .before .before .before .pre .0 .from-within) w f _ _ _ _ a h l (c .before .before .before .before .before .before .before .before .before .before .before .before .before .before .before .before .before .wide6 .ensures .0) (c .before .before .before .before .before .before .before .before .before .narrow .ensures) (c .before .before .before .before .before .solve-shape .ensures (to-now _ (c .before .before .before .before .before .before .before .before .before .before .before .before .before .before .before .before .before .before .before .before .before .before .before .before .before .before .before .before .before .before .before .before .before .before .before .before .before .before .pre .0 .from-within) w f _ _ _ _ a h l (c .before .before .before .before .before .before .before .before .before .before .before .before .before .before .before .before .before .wide6 .ensures .0) (c .before .before .before .before .before .before .before .before .before .narrow .ensures)) sets (found-now _ (c .before .before .before .before .before .before .before .before .before .before .before .before .before .before .before .before .before .before .before .before .before .before .before .before .before .before .before .before .before .before .before .before .before .before .before .before .before .before .pre .0 .from-within) w f _ _ _ _ a h l (c .before .before .before .before .before .before .before .before .before .before .before .before .before .before .before .before .before .wide6 .ensures .0) (c .before .before .before .before .before .before .before .before .before .narrow .ensures))) (c .if3 .taken)
 
 add-wide-6 : tie.Need-add-wide-6 Inv-loop μ-loop
 add-wide-6 c = omega (arith, asked-shape (c .before .before .before .before .before .before .before .before .before .before .before .before .before .before .before .before .before .before .before .before .before .before .pre .0) (c .before .before .before .before .loop .inv) (c .before .before .before .loop-test .taken))
@@ -202,7 +202,7 @@ loop-less c =
     let asked = c .before .before .before .before .before .before .before .before .before .before .before .before .before .before .before .before .before .before .before .before .before .before .before .before .pre .0 in
     let w = asked .situation in
     let f = head-found asked w in
-    rw (c .wide8 .ensures .0) (along-falls w f _ _ _ _ (c .before .before .before .before .before .before .loop .inv w f) (c .before .before .before .before .before .loop-test .taken))
+    rw (c .wide8 .ensures .0) (along-falls _ (c .before .before .before .before .before .before .before .before .before .before .before .before .before .before .before .before .before .before .before .before .before .before .before .before .pre .0 .from-within) w f _ _ _ _ (c .before .before .before .before .before .before .loop .inv w f) (c .before .before .before .before .before .loop-test .taken))
 
 loop-again : tie.Need-loop-again Inv-loop μ-loop
 loop-again c = λ w f.
@@ -212,12 +212,12 @@ loop-again c = λ w f.
     rw (c .wide8 .ensures .0)
     (⊎-elim
     (λ z.
-    let sets = sets-now w f _ _ _ _ a h l (c .before .before .before .wide6 .ensures .0) (z .7 .ensures) (rw (z .3 .taken) at (z .2 .ensures (head-meets w f _ _ _ _ a h _ _ (c .before .before .before .before .before .before .before .before .before .before .before .before .before .before .before .before .wide .ensures .0) (c .before .before .before .before .before .before .before .before .before .before .before .before .before .before .wide2 .ensures .0)))) (rw (z .5 .ensures .0) at (z .6 .ensures)) (rw (c .before .before .before .before .before .before .before .before .before .before .before .before .wide3 .ensures .0) at (c .before .before .before .before .before .before .before .before .before .before .before .first-variables .ensures)) in
-    let step = z .11 .ensures (to-now w f _ _ _ _ a h l (c .before .before .before .wide6 .ensures .0) (z .7 .ensures)) sets (found-now w f _ _ _ _ a h l (c .before .before .before .wide6 .ensures .0) (z .7 .ensures)) in
-    rw (z .17, z .18, z .20) (along-on w f _ _ _ _ a h l (c .before .before .before .wide6 .ensures .0) (z .7 .ensures) step (shifted _ _ (c .before .before .before .before .before .before .before .before .before .before .before .before .wide3 .ensures .0) (vars-few w f)) (z .16 .left)))
+    let sets = sets-now _ (c .before .before .before .before .before .before .before .before .before .before .before .before .before .before .before .before .before .before .before .before .before .before .before .before .pre .0 .from-within) w f _ _ _ _ a h l (c .before .before .before .wide6 .ensures .0) (z .7 .ensures) (rw (z .3 .taken) at (z .2 .ensures (head-meets _ (c .before .before .before .before .before .before .before .before .before .before .before .before .before .before .before .before .before .before .before .before .before .before .before .before .pre .0 .from-within) w f _ _ _ _ a h _ _ (c .before .before .before .before .before .before .before .before .before .before .before .before .before .before .before .before .wide .ensures .0) (c .before .before .before .before .before .before .before .before .before .before .before .before .before .before .wide2 .ensures .0)))) (rw (z .5 .ensures .0) at (z .6 .ensures)) (rw (c .before .before .before .before .before .before .before .before .before .before .before .before .wide3 .ensures .0) at (c .before .before .before .before .before .before .before .before .before .before .before .first-variables .ensures)) in
+    let step = z .11 .ensures (to-now _ (c .before .before .before .before .before .before .before .before .before .before .before .before .before .before .before .before .before .before .before .before .before .before .before .before .pre .0 .from-within) w f _ _ _ _ a h l (c .before .before .before .wide6 .ensures .0) (z .7 .ensures)) sets (found-now _ (c .before .before .before .before .before .before .before .before .before .before .before .before .before .before .before .before .before .before .before .before .before .before .before .before .pre .0 .from-within) w f _ _ _ _ a h l (c .before .before .before .wide6 .ensures .0) (z .7 .ensures)) in
+    rw (z .17, z .18, z .20) (along-on _ (c .before .before .before .before .before .before .before .before .before .before .before .before .before .before .before .before .before .before .before .before .before .before .before .before .pre .0 .from-within) w f _ _ _ _ a h l (c .before .before .before .wide6 .ensures .0) (z .7 .ensures) step (shifted _ _ (c .before .before .before .before .before .before .before .before .before .before .before .before .wide3 .ensures .0) (vars-few w f)) (z .16 .left)))
     (⊎-elim
-    (λ z. rw (z .4, z .5, z .7) (along-apart w f _ _ _ _ a h (rw (z .3 .left) at (z .2 .ensures (head-meets w f _ _ _ _ a h _ _ (c .before .before .before .before .before .before .before .before .before .before .before .before .before .before .before .before .wide .ensures .0) (c .before .before .before .before .before .before .before .before .before .before .before .before .before .before .wide2 .ensures .0))))))
-    (λ z. rw (z .1, z .2, z .4) (along-empty w f _ _ _ _ a h (rw (c .before .before .before .wide6 .ensures .0) at (z .0 .left)))))
+    (λ z. rw (z .4, z .5, z .7) (along-apart _ (c .before .before .before .before .before .before .before .before .before .before .before .before .before .before .before .before .before .before .before .before .before .before .before .before .pre .0 .from-within) w f _ _ _ _ a h (rw (z .3 .left) at (z .2 .ensures (head-meets _ (c .before .before .before .before .before .before .before .before .before .before .before .before .before .before .before .before .before .before .before .before .before .before .before .before .pre .0 .from-within) w f _ _ _ _ a h _ _ (c .before .before .before .before .before .before .before .before .before .before .before .before .before .before .before .before .wide .ensures .0) (c .before .before .before .before .before .before .before .before .before .before .before .before .before .before .wide2 .ensures .0))))))
+    (λ z. rw (z .1, z .2, z .4) (along-empty _ (c .before .before .before .before .before .before .before .before .before .before .before .before .before .before .before .before .before .before .before .before .before .before .before .before .pre .0 .from-within) w f _ _ _ _ a h (rw (c .before .before .before .wide6 .ensures .0) at (z .0 .left)))))
     (c .before .before .if1 .came))
 
 same-length-3 : tie.Need-same-length-3 Inv-loop μ-loop
@@ -237,7 +237,7 @@ same-length-4 c =
 returns-2 : tie.Need-returns-2 Inv-loop μ-loop
 returns-2 c = λ w.
     let f = head-found (c .before .before .before .before .before .before .before .before .before .before .before .before .before .before .before .before .before .before .before .pre .0) w in
-    along-ends w f _ _ _ _ (c .before .loop .inv w f) (omega (arith, c .loop-test .left))
+    along-ends _ (c .before .before .before .before .before .before .before .before .before .before .before .before .before .before .before .before .before .before .before .pre .0 .from-within) w f _ _ _ _ (c .before .loop .inv w f) (omega (arith, c .loop-test .left))
 
 pub solve-spec : {M : Type 1} → statement M
 solve-spec =

@@ -9,12 +9,12 @@ use Rattle.solving.proofs.solve.solve_calls.Statement.{statement}
 use Rattle.solving.proofs.solve.solve_calls.Tie as tie
 
 abbrev Inv-loop : tie.InvT-loop
-Inv-loop table₀ buckets₀ n newest slot mask number room rows₀ link₀ table buckets rows link =
+Inv-loop table₀ buckets₀ n newest slot mask from number room rows₀ link₀ table buckets rows link =
     ((since : ℕ) × (old : ℕ) × CallsAsked table₀ since old newest slot mask × (old ≤ n))
     × ((since old : ℕ) → old ≤ n → (w : ToShape table₀ since old newest slot) (q : ℕ) → PassesTo w mask q → Going w mask number room n buckets₀ link rows table buckets)
 
 abbrev μ-loop : tie.MeasureT-loop
-μ-loop table₀ buckets₀ n newest slot mask number room rows₀ link₀ table buckets rows link = link
+μ-loop table₀ buckets₀ n newest slot mask from number room rows₀ link₀ table buckets rows link = link
 
 loop-holds : tie.Need-loop-holds Inv-loop μ-loop
 loop-holds c =
@@ -28,7 +28,7 @@ mask-at-requires : tie.Need-mask-at-requires Inv-loop μ-loop
 mask-at-requires c κs =
     let ((since, old, asked, b), all) = c .before .before .loop .inv in
     let g = all since old b (asked .to) (asked .q) (asked .passes) in
-    going-read (asked .to) _ _ _ _ _ b _ _ _ _ g (c .before .loop-test .taken)
+    going-read (asked .to) _ _ _ _ _ b _ _ _ _ g (omega (arith, c .before .loop-test .taken))
 
 together-requires : tie.Need-together-requires Inv-loop μ-loop
 together-requires c κs = tt
@@ -56,26 +56,26 @@ returns : tie.Need-returns Inv-loop μ-loop
 returns c = λ w q passes.
     let l = c .before .before .before .before .before .before .before .before .before .before .before .before .before .before .before .pre .2 in
     let g = c .before .before .before .before .before .before .before .before .before .before .before .before .loop .inv .1 _ _ l w q passes in
-    going-full w _ _ _ _ _ l _ _ _ _ g (c .before .before .before .before .before .before .before .before .before .before .before .loop-test .taken) q _ _ _ _ _ passes (c .before .before .before .before .before .before .before .before .before .mask-at .ensures) (c .before .before .before .before .before .before .together .ensures) (c .before .before .before .before .before .add .ensures) (c .before .before .before .before .before .add .kept .0) (c .if1 .taken)
+    going-full w _ _ _ _ _ l _ _ _ _ g (omega (arith, c .before .before .before .before .before .before .before .before .before .before .before .loop-test .taken)) q _ _ _ _ _ passes (c .before .before .before .before .before .before .before .before .before .mask-at .ensures) (c .before .before .before .before .before .before .together .ensures) (c .before .before .before .before .before .add .ensures) (c .before .before .before .before .before .add .kept .0) (c .if1 .taken)
 
 before-at-requires : tie.Need-before-at-requires Inv-loop μ-loop
 before-at-requires c κs =
     let ((since, old, asked, b), all) = c .before .before .before .before .before .before .before .before .before .before .before .before .before .loop .inv in
     let g = all since old b (asked .to) (asked .q) (asked .passes) in
-    rw (c .before .before .before .before .before .before .add .kept .0) (going-read (asked .to) _ _ _ _ _ b _ _ _ _ g (c .before .before .before .before .before .before .before .before .before .before .before .before .loop-test .taken))
+    rw (c .before .before .before .before .before .before .add .kept .0) (going-read (asked .to) _ _ _ _ _ b _ _ _ _ g (omega (arith, c .before .before .before .before .before .before .before .before .before .before .before .before .loop-test .taken)))
 
 loop-less : tie.Need-loop-less Inv-loop μ-loop
 loop-less c =
     let ((since, old, asked, b), all) = c .before .before .before .before .before .before .before .before .before .before .before .before .before .before .loop .inv in
     let g = all since old b (asked .to) (asked .q) (asked .passes) in
-    going-falls (asked .to) _ _ _ _ _ b _ _ _ _ g (c .before .before .before .before .before .before .before .before .before .before .before .before .before .loop-test .taken) (asked .q) _ _ _ _ _ (asked .passes) (c .before .before .before .before .before .before .before .before .before .before .before .mask-at .ensures) (c .before .before .before .before .before .before .before .before .together .ensures) (c .before .before .before .before .before .before .before .add .ensures) (c .before .before .before .before .before .before .before .add .kept .0) (c .before .before .if1 .left) _ (c .before-at .ensures)
+    going-falls (asked .to) _ _ _ _ _ b _ _ _ _ g (omega (arith, c .before .before .before .before .before .before .before .before .before .before .before .before .before .loop-test .taken)) (asked .q) _ _ _ _ _ (asked .passes) (c .before .before .before .before .before .before .before .before .before .before .before .mask-at .ensures) (c .before .before .before .before .before .before .before .before .together .ensures) (c .before .before .before .before .before .before .before .add .ensures) (c .before .before .before .before .before .before .before .add .kept .0) (c .before .before .if1 .left) _ (c .before-at .ensures)
 
 loop-again : tie.Need-loop-again Inv-loop μ-loop
 loop-again c = (
   c .before .before .before .before .before .before .before .before .before .before .before .before .before .before .loop .inv .0,
   λ since old b w q passes.
       let g = c .before .before .before .before .before .before .before .before .before .before .before .before .before .before .loop .inv .1 since old b w q passes in
-      going-on w _ _ _ _ _ b _ _ _ _ g (c .before .before .before .before .before .before .before .before .before .before .before .before .before .loop-test .taken) q _ _ _ _ _ passes (c .before .before .before .before .before .before .before .before .before .before .before .mask-at .ensures) (c .before .before .before .before .before .before .before .before .together .ensures) (c .before .before .before .before .before .before .before .add .ensures) (c .before .before .before .before .before .before .before .add .kept .0) (c .before .before .if1 .left) _ (c .before-at .ensures),
+      going-on w _ _ _ _ _ b _ _ _ _ g (omega (arith, c .before .before .before .before .before .before .before .before .before .before .before .before .before .loop-test .taken)) q _ _ _ _ _ passes (c .before .before .before .before .before .before .before .before .before .before .before .mask-at .ensures) (c .before .before .before .before .before .before .before .before .together .ensures) (c .before .before .before .before .before .before .before .add .ensures) (c .before .before .before .before .before .before .before .add .kept .0) (c .before .before .if1 .left) _ (c .before-at .ensures),
 )
 
 same-length-3 : tie.Need-same-length-3 Inv-loop μ-loop
@@ -93,7 +93,7 @@ same-length-4 c =
 returns-2 : tie.Need-returns-2 Inv-loop μ-loop
 returns-2 c = λ w q passes.
     let l = c .before .before .before .before .pre .2 in
-    going-ends w _ _ _ _ _ l _ _ _ _ (c .before .loop .inv .1 _ _ l w q passes) q passes (omega (arith, c .loop-test .left))
+    going-ends w _ _ _ _ _ l _ _ _ _ (c .before .loop .inv .1 _ _ l w q passes) _ q passes (omega (arith, c .loop-test .left))
 
 pub solve-calls-spec : {M : Type 1} → statement M
 solve-calls-spec =

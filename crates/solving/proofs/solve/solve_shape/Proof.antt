@@ -10,18 +10,18 @@ use Rattle.solving.proofs.solve.solve_shape.Statement.{statement}
 use Rattle.solving.proofs.solve.solve_shape.Tie as tie
 
 abbrev Inv-loop : tie.InvT-loop
-Inv-loop table₀ buckets₀ n at newest slot sets here there found marks room rows₀ q₀ table buckets rows q =
+Inv-loop table₀ buckets₀ n at newest slot sets here there found marks from room rows₀ q₀ table buckets rows q =
     (q ≤ marks)
     × ((w : ToShape table₀ (at .since) (at .rows) newest slot) → ShapeSets w sets here there → FoundFor w found
-    → Through w found (at .number) (at .room) n buckets₀ q rows table buckets)
+    → Through w from found (at .number) (at .room) n buckets₀ q rows table buckets)
 
 abbrev μ-loop : tie.MeasureT-loop
-μ-loop table₀ buckets₀ n at newest slot sets here there found marks room rows₀ q₀ table buckets rows q = marks - q
+μ-loop table₀ buckets₀ n at newest slot sets here there found marks from room rows₀ q₀ table buckets rows q = marks - q
 
 loop-holds : tie.Need-loop-holds Inv-loop μ-loop
 loop-holds c =
     let (asked, writable, l) = c .before .before .before .pre in
-    (omega arith, λ w unified set. through-begins w (c .before .before .before .args .found .now) _ _ _ _ writable)
+    (omega arith, λ w unified set. through-begins w _ (c .before .before .before .args .found .now) _ _ _ _ writable)
 
 narrow-requires : tie.Need-narrow-requires Inv-loop μ-loop
 narrow-requires c κs = omega (arith, c .loop-test .taken, c .before .before .before .before .before .pre .0 .few)
@@ -61,7 +61,7 @@ returns c = λ w unified set.
     let g = c .before .before .before .before .before .before .before .before .before .before .before .before .before .before .loop .inv .1 w unified set in
     let small : c .before .before .before .before .before .before .before .before .before .before .before .before .before .before .loop .q < 65536 = omega (arith, c .before .before .before .before .before .before .before .before .before .before .before .before .before .loop-test .taken, c .before .before .before .before .before .before .before .before .before .before .before .before .before .before .before .before .before .before .pre .0 .few) in
     let passes = set-passes w unified set _ _ _ _ small (c .before .before .before .before .before .before .before .before .before .before .before .before .narrow .ensures) (c .before .before .before .before .before .before .before .before .before .before .before .contains .ensures .0 (rw (c .before .before .before .before .before .before .before .before .before .before .if1 .taken) tt)) (c .before .before .before .before .before .before .before .before .before .narrow2 .ensures) (c .before .before .before .before .before .before .before .before .passed .ensures .1) in
-    through-full w (c .before .before .before .before .before .before .before .before .before .before .before .before .before .before .before .before .before .before .args .found .now) _ _ _ _ _ _ _ _ g l _ _ _ (c .before .before .before .before .before .solve-calls .ensures (to-stays w _ _ l (g .same-rows) (g .same-length)) _ (passes-stay w _ _ l (g .same-rows) (g .same-length) _ _ passes)) (c .if2 .taken)
+    through-full w _ (c .before .before .before .before .before .before .before .before .before .before .before .before .before .before .before .before .before .before .args .found .now) _ _ _ _ _ _ _ _ g l _ _ _ (c .before .before .before .before .before .solve-calls .ensures (to-stays w _ _ l (g .same-rows) (g .same-length)) _ (passes-stay w _ _ l (g .same-rows) (g .same-length) _ _ passes)) (c .if2 .taken)
 
 add-q : tie.Need-add-q Inv-loop μ-loop
 add-q c = omega (arith, c .before .before .before .loop-test .taken, c .before .before .before .before .before .before .before .before .pre .0 .few)
@@ -80,10 +80,10 @@ loop-again c =
           (λ z.
           let passes = set-passes w unified set _ _ _ _ small (c .before .before .narrow .ensures) (c .before .contains .ensures .0 (rw (z .0 .taken) tt)) (z .1 .ensures) (z .2 .ensures .1) in
           let s = z .5 .ensures (to-stays w _ _ l (g .same-rows) (g .same-length)) _ (passes-stay w _ _ l (g .same-rows) (g .same-length) _ _ passes) in
-          rw (z .11, z .12, z .13) (through-on w (c .before .before .before .before .before .before .before .before .args .found .now) _ _ _ _ _ _ _ _ g l _ _ _ s (z .10 .left)))
+          rw (z .11, z .12, z .13) (through-on w _ (c .before .before .before .before .before .before .before .before .args .found .now) _ _ _ _ _ _ _ _ g l _ _ _ s (c .before .before .before .before .before .before .before .before .pre .0 .from-within) (z .10 .left)))
           (λ z.
           let out : InSet (c .before .before .before .before .before .before .before .before .args .found .now) (c .before .before .before .before .loop .q) → ⊥ = λ i. rw (z .0 .left) at (c .before .contains .ensures .1 (rw (c .before .before .narrow .ensures) i)) in
-          rw (z .1, z .2, z .3) (through-past w (c .before .before .before .before .before .before .before .before .args .found .now) _ _ _ _ _ _ _ _ g out))
+          rw (z .1, z .2, z .3) (through-past w _ (c .before .before .before .before .before .before .before .before .args .found .now) _ _ _ _ _ _ _ _ g out))
           (c .if1 .came),
     )
 
@@ -101,7 +101,7 @@ same-length-4 c =
 returns-2 : tie.Need-returns-2 Inv-loop μ-loop
 returns-2 c = λ w unified set.
     let e : c .before .loop .q ≡ c .before .before .before .before .before .args .marks = omega (arith, c .loop-test .left, c .before .loop .inv .0) in
-    through-ends w (c .before .before .before .before .before .args .found .now) _ _ _ _ _ _ _ _ (c .before .loop .inv .1 w unified set) _ e
+    through-ends w _ (c .before .before .before .before .before .args .found .now) _ _ _ _ _ _ _ _ (c .before .loop .inv .1 w unified set) _ e
 
 pub solve-shape-spec : {M : Type 1} → statement M
 solve-shape-spec =

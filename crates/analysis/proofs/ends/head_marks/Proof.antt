@@ -2,8 +2,8 @@
 use native.Mathlib.Omega.{arith}
 use borrow.Author.Needs.{needs}
 use Rattle.analysis.proofs.ClauseRows.{clause-few, vars-few, no-body, some-body, end-after, last-asked, last-marked}
-use Rattle.analysis.proofs.rounds.head_marks.Statement.{statement}
-use Rattle.analysis.proofs.rounds.head_marks.Tie as tie
+use Rattle.analysis.proofs.ends.head_marks.Statement.{statement}
+use Rattle.analysis.proofs.ends.head_marks.Tie as tie
 
 add-wide : tie.Need-add-wide
 add-wide c = let s = c .before .before .before .before .before .before .before in let few = clause-few _ _ _ _ _ _ _ (s .pre .0) in omega (arith, few .0, few .1)
@@ -83,7 +83,7 @@ returns-2 : tie.Need-returns-2
 returns-2 c = let call = c .before .before .before .before .before .before .last-place in (
   call .ensures .0,
   λ w.
-      last-marked _ _ _ _ _ _ _ w _ _ (c .before .before .before .before .before .before .before .before .before .before .before .before .before .before .before .before .wide .ensures .0) (c .before .before .before .before .before .before .before .before .before .before .before .before .before .before .wide2 .ensures .0) (some-body _ _ _ _ _ _ _ w _ _ (c .before .before .before .before .before .before .before .before .before .before .before .before .before .before .before .before .wide .ensures .0) (c .before .before .before .before .before .before .before .before .before .before .before .before .before .before .wide2 .ensures .0) (c .before .before .before .before .before .before .before .before .before .before .before .before .before .if1 .left)) _ _ (call .ensures .1),
+      last-marked _ _ _ _ _ _ _ w _ _ (c .before .before .before .before .before .before .before .before .before .before .before .before .before .before .before .before .wide .ensures .0) (c .before .before .before .before .before .before .before .before .before .before .before .before .before .before .wide2 .ensures .0) (some-body _ _ _ _ _ _ _ w _ _ (c .before .before .before .before .before .before .before .before .before .before .before .before .before .before .before .before .wide .ensures .0) (c .before .before .before .before .before .before .before .before .before .before .before .before .before .before .wide2 .ensures .0) (c .before .before .before .before .before .before .before .before .before .before .before .before .before .if1 .left)) _ _ (call .result) (call .ensures .1),
 )
 
 pub head-marks-spec : {M : Type 1} → statement M
