@@ -1,4 +1,4 @@
--- A clause in a round: where it stands in the directory, the rows for its body atoms, and then those that it ends in; and all clauses.
+-- A clause in a round: where it stands in the directory, the rows for its body atoms, and then those that it ends in.
 use Prim.Native.Nat.{ℕ, zero, suc, _+_, _-_, _≤_, _<_}
 use native.Mathlib.Omega.{arith}
 use mathlib.Core.Path.{_≡_, refl, sym, ap, subst, _∙_}
@@ -16,10 +16,9 @@ use Rattle.directory.specs.Layout.{clauseHead, clauseFirst, clauseVars, dirWord
 use Rattle.directory.specs.Directory.{predicateOf, ClauseAt}
 use Rattle.rows.specs.Rows.{keysOf}
 use Rattle.table.specs.Keys.{bodyIndex}
-use Rattle.table.specs.Added.{Below}
-use Rattle.table.specs.NewRows.{NewGoesOn, NewIn, NewGives}
+use Rattle.table.specs.NewRows.{NewGoesOn, NewIn}
 use Rattle.table.specs.RoundKeys.{Keyed}
-use Rattle.table.proofs.Looking.{by-places, by-clauses}
+use Rattle.table.proofs.Looking.{by-places}
 use Rattle.steps.specs.Steps.{RowsIn, Writable, Grew, Stepped}
 use Rattle.steps.specs.Situation.{Situation, BodyOf, FirstAsked, HeadAsked, LastAsked}
 use Rattle.steps.specs.Since.{PredicateAsked}
@@ -30,7 +29,6 @@ use Rattle.steps.proofs.Bodies.{first-body, head-is-atom}
 use Rattle.steps.proofs.BodyAtoms.{some-cells, predicate-there}
 use Rattle.steps.proofs.Stepping.{keys-stay, grew-none, stepped-then, stepped-must}
 use Rattle.steps.proofs.SlotRows.{chains-stay}
-use Rattle.analysis.proofs.MiddlePlaces.{below-one-more}
 
 module _ (words dir table heads : List ℕ) (since rows k : ℕ) (w : HeadAsked words dir table heads since rows k) where
   abbrev p : Program
@@ -256,45 +254,3 @@ module _ (words dir heads table₀ buckets₀ : List ℕ) (since rows round room
           (λ key h. ⊎-elim (λ b. inl (places key b)) inr (by-places q (RowsIn q (keysOf table₀ since)) (RowsIn q (keysOf table₀ rows)) (w .clause .nth-clause) key .1 h))
           (stepped-then q (keysOf table₀ rows) round room n n′ n″ table₀ buckets₀ table buckets table′ buckets′ _ _ g
           (stepped-over q (λ ks₀ ks. AtEnd q ks₀ ks k) _ _ _ _ round room n′ n″ table buckets table′ buckets′ since-same rows-same (ends (stands-on k w Must n′ table buckets g))))
-
--- all clauses, one after the other
-module _ (words dir heads table₀ buckets₀ : List ℕ) (since rows round room : ℕ) (w : Situation words dir table₀ heads since rows) where
-  abbrev Looked : ℕ → ℕ → Type 0
-  Looked k = Keyed (w .p) (NewIn modes (w .p) (RowsIn (w .p) (keysOf table₀ since)) (RowsIn (w .p) (keysOf table₀ rows)) k)
-
-  pub clauses-begin : Writable table₀ buckets₀ rows room → Grew (w .p) (keysOf table₀ rows) round room rows table₀ buckets₀ (Below Looked 0) rows table₀ buckets₀
-  clauses-begin writable = grew-none (w .p) (keysOf table₀ rows) round room rows table₀ buckets₀ _ writable (λ key (i, b, h). absurd (omega arith))
-
-  pub clauses-many : length (w .p .clauses) ≡ getD dir 1 0
-  clauses-many = sym (w .setting .directory .clause-count)
-
-  module _ (k n′ : ℕ) (table buckets : List ℕ) (b : k < length (w .p .clauses))
-      (g : Grew (w .p) (keysOf table₀ rows) round room rows table₀ buckets₀ (Below Looked k) n′ table buckets) where
-    pub clause-there : (c : Clause) × Nth (w .p .clauses) k c
-    clause-there = below-nth (w .p .clauses) k b
-
-    abbrev pub clause-asked : HeadAsked words dir table heads since rows k
-    clause-asked =
-        stands-on words dir heads table₀ buckets₀ since rows round room rows (omega arith) k
-        (record { situation = w; clause = record { c = clause-there .0; nth-clause = clause-there .1 } }) (Below Looked k) n′ table buckets g
-
-    pub clauses-next : (n″ : ℕ) (table′ buckets′ : List ℕ)
-        → ((v : HeadAsked words dir table heads since rows k)
-        → Stepped (v .situation .p) (keysOf table rows) round room n′ table buckets
-        (Keyed (v .situation .p) (NewIn modes (v .situation .p) (RowsIn (v .situation .p) (keysOf table since)) (RowsIn (v .situation .p) (keysOf table rows)) k)) n″ table′ buckets′)
-        → Stepped (w .p) (keysOf table₀ rows) round room rows table₀ buckets₀ (Below Looked (k + 1)) n″ table′ buckets′
-    clauses-next n″ table′ buckets′ step =
-        let e = keys-stay table₀ table rows rows (omega arith) (g .same-rows) in
-        let f = keys-stay table₀ table rows since (w .chains .new) (g .same-rows) in
-        stepped-must (w .p) (keysOf table₀ rows) round room rows n″ table₀ buckets₀ table′ buckets′ _ _
-        (λ key. below-one-more Looked k (k + 1) key (omega arith))
-        (stepped-then (w .p) (keysOf table₀ rows) round room rows n′ n″ table₀ buckets₀ table buckets table′ buckets′ _ _ g
-        (rw (e, f) at (step clause-asked)))
-
-  pub clauses-end : (k n′ : ℕ) (table buckets : List ℕ) → length (w .p .clauses) ≤ k
-      → Grew (w .p) (keysOf table₀ rows) round room rows table₀ buckets₀ (Below Looked k) n′ table buckets
-      → Stepped (w .p) (keysOf table₀ rows) round room rows table₀ buckets₀ (Keyed (w .p) (NewGives modes (w .p) (RowsIn (w .p) (keysOf table₀ since)) (RowsIn (w .p) (keysOf table₀ rows)))) n′ table buckets
-  clauses-end k n′ table buckets b g =
-      stepped-must (w .p) (keysOf table₀ rows) round room rows n′ table₀ buckets₀ table buckets _ _
-      (λ key h. let (i, d, s) = by-clauses (w .p) (RowsIn (w .p) (keysOf table₀ since)) (RowsIn (w .p) (keysOf table₀ rows)) key .1 h in (i, omega arith, s))
-      (inl g)

@@ -2,6 +2,9 @@
 pub mod MiddlePlaces
 pub mod HeadMarks
 pub mod ClauseRows
+pub mod ActiveClauses
+pub mod ClauseIndex
+pub mod RoundClauses
 pub mod ClearedMarks
 pub mod Endings
 pub mod RoundByRound

@@ -22,7 +22,7 @@ const CONT: u16 = 2;
 const SOLUTION: u16 = 3;
 
 // The clause, from 0, of body atom j.
-fn clause_of(words: &[u16], dir: &[u16], j: usize) -> usize
+pub fn clause_of(words: &[u16], dir: &[u16], j: usize) -> usize
     requires { ⌜ Belongs (now words) (now dir) j ⌝ }
     ensures { λ k. ⌜ ((w : Belongs (now (words .entry)) (now (dir .entry)) j) → k ≡ w .body .k) ⌝ }
 {

@@ -14,12 +14,12 @@ use Rattle.steps.specs.Situation.{Situation}
 use Rattle.steps.specs.Steps.{RowsIn, Grew}
 use Rattle.analysis.specs.Clauses.{Scratch}
 use Rattle.steps.proofs.Stepping.{stepped-within, stepped-past}
-use Rattle.analysis.proofs.ClauseRows.{clauses-begin, clause-asked, clauses-next, clauses-end}
+use Rattle.analysis.proofs.RoundClauses.{clauses-begin, look-asked, clauses-next, clauses-end}
 use Rattle.analysis.proofs.rounds.round.Statement.{statement}
 use Rattle.analysis.proofs.rounds.round.Tie as tie
 
 abbrev Inv-loop : tie.InvT-loop
-Inv-loop words dir table₀ buckets₀ heads seen₀ answers₀ found₀ at room clauses rows₀ k₀ table buckets seen answers found rows k =
+Inv-loop words dir table₀ buckets₀ heads seen₀ answers₀ found₀ headed bodied at room clauses concerns rows₀ k₀ table buckets seen answers found rows k =
     (k ≤ clauses) × (length table ≡ length table₀) × (length buckets ≡ length buckets₀) × (length seen ≡ length seen₀) × (length answers ≡ length answers₀) × (length found ≡ length found₀)
     × Scratch seen answers found × (clauses ≡ getD dir clauseCount 0)
     × ((w : Situation words dir table₀ heads (at .since) (at .rows))
@@ -27,65 +27,69 @@ Inv-loop words dir table₀ buckets₀ heads seen₀ answers₀ found₀ at room
     (Below (λ k. Keyed (w .p) (NewIn modes (w .p) (RowsIn (w .p) (keysOf table₀ (at .since))) (RowsIn (w .p) (keysOf table₀ (at .rows))) k)) k) rows table buckets)
 
 abbrev μ-loop : tie.MeasureT-loop
-μ-loop words dir table₀ buckets₀ heads seen₀ answers₀ found₀ at room clauses rows₀ k₀ table buckets seen answers found rows k = clauses - k
+μ-loop words dir table₀ buckets₀ heads seen₀ answers₀ found₀ headed bodied at room clauses concerns rows₀ k₀ table buckets seen answers found rows k = clauses - k
 
 shared-slice-read-wide : tie.Need-shared-slice-read-wide Inv-loop μ-loop
-shared-slice-read-wide c = omega (arith, c .before .before .before .before .before .before .before .before .before .pre .0 .setting .directory .size)
+shared-slice-read-wide c = omega (arith, c .before .before .before .before .before .before .before .before .before .before .before .pre .0 .situation .setting .directory .size)
 
 wide-requires : tie.Need-wide-requires Inv-loop μ-loop
 wide-requires c κs = tt
 
-loop-holds : tie.Need-loop-holds Inv-loop μ-loop
-loop-holds c = let s = c .before .before .before .before .before .before .before .before .before .before in
-    (omega arith, refl, refl, refl, refl, refl, s .pre .2, c .wide .ensures .0, λ w. clauses-begin _ _ _ _ _ _ _ _ _ w (s .pre .1))
+active-requires : tie.Need-active-requires Inv-loop μ-loop
+active-requires c κs = c .before .before .before .before .before .before .before .before .before .before .before .before .before .pre .0
 
-clause-requires : tie.Need-clause-requires Inv-loop μ-loop
-clause-requires c κs = let s = c .before .before .before .before .before .before .before .before .before .before .before .before .before .before .before .before .before in let inv = c .before .before .before .before .before .before .loop .inv in
-    let w = s .pre .0 in
+loop-holds : tie.Need-loop-holds Inv-loop μ-loop
+loop-holds c = let s = c .before .before .before .before .before .before .before .before .before .before .before .before .before .before in
+    (omega arith, refl, refl, refl, refl, refl, s .pre .2, c .before .before .wide .ensures .0, λ w. clauses-begin _ _ _ _ _ _ _ _ _ w (s .pre .1))
+
+look-requires : tie.Need-look-requires Inv-loop μ-loop
+look-requires c κs =
+    let inv = c .before .before .before .before .before .before .loop .inv in
+    let w = c .before .before .before .before .before .before .before .before .before .before .before .before .before .before .before .before .before .before .before .before .before .pre .0 .situation in
     let g = inv .8 w in
     let b : c .before .before .before .before .before .before .loop .k < length (w .p .clauses) = omega (arith, c .before .before .before .before .before .loop-test .taken, inv .7, w .setting .directory .clause-count) in
-    (clause-asked _ _ _ _ _ _ _ _ _ w _ _ _ _ b g, g .writable, g .more, inv .6)
+    (look-asked _ _ _ _ _ _ _ _ _ w _ _ _ _ b g _ (c .before .before .before .before .before .before .before .active .ensures w (c .before .before .before .before .before .before .before .before .before .before .before .before .before .before .before .before .before .before .before .before .before .pre .0 .indexed) _), g .writable, g .more, inv .6)
 
 same-length : tie.Need-same-length Inv-loop μ-loop
-same-length c = c .before .before .before .before .before .before .before .before .before .before .before .clause .kept .1 .1 .0 ∙ c .before .before .before .before .before .before .before .before .before .before .before .before .before .before .before .before .before .before .loop .inv .1
+same-length c = c .before .before .before .before .before .before .before .before .before .before .before .look .kept .1 .1 .0 ∙ c .before .before .before .before .before .before .before .before .before .before .before .before .before .before .before .before .before .before .loop .inv .1
 
 same-length-2 : tie.Need-same-length-2 Inv-loop μ-loop
-same-length-2 c = c .before .before .before .before .before .before .before .before .before .before .before .clause .kept .1 .1 .1 .0 ∙ c .before .before .before .before .before .before .before .before .before .before .before .before .before .before .before .before .before .before .loop .inv .2
+same-length-2 c = c .before .before .before .before .before .before .before .before .before .before .before .look .kept .1 .1 .1 .0 ∙ c .before .before .before .before .before .before .before .before .before .before .before .before .before .before .before .before .before .before .loop .inv .2
 
 same-length-3 : tie.Need-same-length-3 Inv-loop μ-loop
-same-length-3 c = c .before .before .before .before .before .before .before .before .before .before .before .clause .kept .1 .1 .1 .1 .1 .0 ∙ c .before .before .before .before .before .before .before .before .before .before .before .before .before .before .before .before .before .before .loop .inv .3
+same-length-3 c = c .before .before .before .before .before .before .before .before .before .before .before .look .kept .1 .1 .1 .1 .1 .0 ∙ c .before .before .before .before .before .before .before .before .before .before .before .before .before .before .before .before .before .before .loop .inv .3
 
 same-length-4 : tie.Need-same-length-4 Inv-loop μ-loop
-same-length-4 c = c .before .before .before .before .before .before .before .before .before .before .before .clause .kept .1 .1 .1 .1 .1 .1 .0 ∙ c .before .before .before .before .before .before .before .before .before .before .before .before .before .before .before .before .before .before .loop .inv .4
+same-length-4 c = c .before .before .before .before .before .before .before .before .before .before .before .look .kept .1 .1 .1 .1 .1 .1 .0 ∙ c .before .before .before .before .before .before .before .before .before .before .before .before .before .before .before .before .before .before .loop .inv .4
 
 same-length-5 : tie.Need-same-length-5 Inv-loop μ-loop
-same-length-5 c = c .before .before .before .before .before .before .before .before .before .before .before .clause .kept .1 .1 .1 .1 .1 .1 .1 .0 ∙ c .before .before .before .before .before .before .before .before .before .before .before .before .before .before .before .before .before .before .loop .inv .5
+same-length-5 c = c .before .before .before .before .before .before .before .before .before .before .before .look .kept .1 .1 .1 .1 .1 .1 .1 .0 ∙ c .before .before .before .before .before .before .before .before .before .before .before .before .before .before .before .before .before .before .loop .inv .5
 
 returns : tie.Need-returns Inv-loop μ-loop
-returns c = let s = c .before .before .before .before .before .before .before .before .before .before .before .before .before .before .before .before .before .before .before .before .before .before .before .before .before .before .before .before .before in let inv = c .before .before .before .before .before .before .before .before .before .before .before .before .before .before .before .before .before .before .loop .inv in
+returns c = let s = c .before .before .before .before .before .before .before .before .before .before .before .before .before .before .before .before .before .before .before .before .before .before .before .before .before .before .before .before .before .before .before .before .before in let inv = c .before .before .before .before .before .before .before .before .before .before .before .before .before .before .before .before .before .before .loop .inv in
     let b : (w : Situation (s .args .words .now) (s .args .dir .now) (s .args .table .now) (s .args .heads .now) (s .args .at .since) (s .args .at .rows)) → c .before .before .before .before .before .before .before .before .before .before .before .before .before .before .before .before .before .before .loop .k < length (w .p .clauses) = λ w. omega (arith, c .before .before .before .before .before .before .before .before .before .before .before .before .before .before .before .before .before .loop-test .taken, inv .7, w .setting .directory .clause-count) in (
-      c .before .before .before .before .before .before .before .before .before .before .before .clause .ensures .0,
-      λ w. inr (stepped-past _ _ (s .args .at .number) _ _ _ _ _ _ _ _ (clauses-next _ _ _ _ _ _ _ _ _ w _ _ _ _ (b w) (inv .8 w) _ _ _ (c .before .before .before .before .before .before .before .before .before .before .before .clause .ensures .1)) (c .if1 .taken)),
+      c .before .before .before .before .before .before .before .before .before .before .before .look .ensures .0,
+      λ w. inr (stepped-past _ _ (s .args .at .number) _ _ _ _ _ _ _ _ (clauses-next _ _ _ _ _ _ _ _ _ w _ _ _ _ (b w) (inv .8 w) _ _ _ (c .before .before .before .before .before .before .before .before .before .before .before .look .ensures .1)) (c .if1 .taken)),
     )
 
 add-k : tie.Need-add-k Inv-loop μ-loop
-add-k c = omega (arith, c .before .before .before .before .before .before .before .before .before .before .before .before .before .before .before .before .before .loop-test .taken, c .before .before .before .before .before .before .before .before .before .before .before .before .before .before .before .before .before .before .before .wide .ensures .1)
+add-k c = omega (arith, c .before .before .before .before .before .before .before .before .before .before .before .before .before .before .before .before .before .loop-test .taken, c .before .before .before .before .before .before .before .before .before .before .before .before .before .before .before .before .before .before .before .before .before .wide .ensures .1)
 
 loop-less : tie.Need-loop-less Inv-loop μ-loop
 loop-less c = omega (arith, c .before .before .before .before .before .before .before .before .before .before .before .before .before .before .before .before .before .loop-test .taken)
 
 loop-again : tie.Need-loop-again Inv-loop μ-loop
-loop-again c = let s = c .before .before .before .before .before .before .before .before .before .before .before .before .before .before .before .before .before .before .before .before .before .before .before .before .before .before .before .before .before in let inv = c .before .before .before .before .before .before .before .before .before .before .before .before .before .before .before .before .before .before .loop .inv in
+loop-again c = let s = c .before .before .before .before .before .before .before .before .before .before .before .before .before .before .before .before .before .before .before .before .before .before .before .before .before .before .before .before .before .before .before .before .before in let inv = c .before .before .before .before .before .before .before .before .before .before .before .before .before .before .before .before .before .before .loop .inv in
     let b : (w : Situation (s .args .words .now) (s .args .dir .now) (s .args .table .now) (s .args .heads .now) (s .args .at .since) (s .args .at .rows)) → c .before .before .before .before .before .before .before .before .before .before .before .before .before .before .before .before .before .before .loop .k < length (w .p .clauses) = λ w. omega (arith, c .before .before .before .before .before .before .before .before .before .before .before .before .before .before .before .before .before .loop-test .taken, inv .7, w .setting .directory .clause-count) in (
       omega (arith, c .before .before .before .before .before .before .before .before .before .before .before .before .before .before .before .before .before .loop-test .taken),
-      c .before .before .before .before .before .before .before .before .before .before .before .clause .kept .1 .1 .0 ∙ inv .1,
-      c .before .before .before .before .before .before .before .before .before .before .before .clause .kept .1 .1 .1 .0 ∙ inv .2,
-      c .before .before .before .before .before .before .before .before .before .before .before .clause .kept .1 .1 .1 .1 .1 .0 ∙ inv .3,
-      c .before .before .before .before .before .before .before .before .before .before .before .clause .kept .1 .1 .1 .1 .1 .1 .0 ∙ inv .4,
-      c .before .before .before .before .before .before .before .before .before .before .before .clause .kept .1 .1 .1 .1 .1 .1 .1 .0 ∙ inv .5,
-      c .before .before .before .before .before .before .before .before .before .before .before .clause .ensures .0,
+      c .before .before .before .before .before .before .before .before .before .before .before .look .kept .1 .1 .0 ∙ inv .1,
+      c .before .before .before .before .before .before .before .before .before .before .before .look .kept .1 .1 .1 .0 ∙ inv .2,
+      c .before .before .before .before .before .before .before .before .before .before .before .look .kept .1 .1 .1 .1 .1 .0 ∙ inv .3,
+      c .before .before .before .before .before .before .before .before .before .before .before .look .kept .1 .1 .1 .1 .1 .1 .0 ∙ inv .4,
+      c .before .before .before .before .before .before .before .before .before .before .before .look .kept .1 .1 .1 .1 .1 .1 .1 .0 ∙ inv .5,
+      c .before .before .before .before .before .before .before .before .before .before .before .look .ensures .0,
       inv .7,
-      λ w. stepped-within _ _ (s .args .at .number) _ _ _ _ _ _ _ _ (clauses-next _ _ _ _ _ _ _ _ _ w _ _ _ _ (b w) (inv .8 w) _ _ _ (c .before .before .before .before .before .before .before .before .before .before .before .clause .ensures .1)) (c .if1 .left),
+      λ w. stepped-within _ _ (s .args .at .number) _ _ _ _ _ _ _ _ (clauses-next _ _ _ _ _ _ _ _ _ w _ _ _ _ (b w) (inv .8 w) _ _ _ (c .before .before .before .before .before .before .before .before .before .before .before .look .ensures .1)) (c .if1 .left),
     )
 
 same-length-6 : tie.Need-same-length-6 Inv-loop μ-loop
@@ -117,8 +121,9 @@ round-spec =
     μ-loop
     shared-slice-read-wide
     wide-requires
+    active-requires
     loop-holds
-    clause-requires
+    look-requires
     same-length
     same-length-2
     same-length-3

@@ -4,8 +4,8 @@ use mathlib.Core.Logic.{inl, inr}
 use Rattle.steps.proofs.Stepping.{stepped-within, stepped-past}
 use Rattle.analysis.proofs.ClauseRows.{clause-few, no-body, some-body, end-after, first-asked, middles-asked, stands-on, no-places, all-places}
 use borrow.Author.Needs.{needs}
-use Rattle.analysis.proofs.rounds.places.Statement.{statement}
-use Rattle.analysis.proofs.rounds.places.Tie as tie
+use Rattle.analysis.proofs.clauses.places.Statement.{statement}
+use Rattle.analysis.proofs.clauses.places.Tie as tie
 
 add-wide : tie.Need-add-wide
 add-wide c = let s = c .before .before .before .before .before .before .before in let few = clause-few _ _ _ _ _ _ _ (s .pre .0) in omega (arith, few .0, few .1)

@@ -11,8 +11,8 @@ use Rattle.steps.specs.Steps.{Grew}
 use Rattle.analysis.specs.Clauses.{MiddlesAsked, PastPlaces}
 use Rattle.steps.proofs.Stepping.{stepped-within, stepped-past}
 use Rattle.analysis.proofs.MiddlePlaces.{middle-asked, middle-next, middles-begin, middles-end}
-use Rattle.analysis.proofs.rounds.middle_places.Statement.{statement}
-use Rattle.analysis.proofs.rounds.middle_places.Tie as tie
+use Rattle.analysis.proofs.clauses.middle_places.Statement.{statement}
+use Rattle.analysis.proofs.clauses.middle_places.Tie as tie
 
 abbrev Inv-loop : tie.InvT-loop
 Inv-loop words dir table₀ buckets₀ heads seen₀ answers₀ n at first last room rows₀ j₀ table buckets seen answers rows j =

@@ -5,8 +5,8 @@ use mathlib.Core.Logic.{inr}
 use Rattle.steps.proofs.Stepping.{stepped-within, stepped-past}
 use Rattle.analysis.proofs.ClauseRows.{stands-on, clause-ends}
 use borrow.Author.Needs.{needs}
-use Rattle.analysis.proofs.rounds.clause.Statement.{statement}
-use Rattle.analysis.proofs.rounds.clause.Tie as tie
+use Rattle.analysis.proofs.clauses.clause.Statement.{statement}
+use Rattle.analysis.proofs.clauses.clause.Tie as tie
 
 places-requires : tie.Need-places-requires
 places-requires c κs = search needs
