@@ -3,29 +3,27 @@ use Prim.Native.Nat.{ℕ, zero, suc, _+_, _-_, _*_, _^_, _%_, _≤_, _<_}
 use native.Mathlib.Omega.{arith}
 use native.Mathlib.Nat.{one-mul, mod-eq-of-lt}
 use native.Mathlib.Decide.{decLt, ℕ-discrete}
-use mathlib.Core.Path.{_≡_, refl, sym, ap, subst, _∙_}
-use mathlib.Core.Logic.{_⊎_, inl, inr, ⊎-elim}
-use mathlib.Core.List.{List, Memᴰ·cast}
+use mathlib.Core.Path.{_≡_, refl, sym, ap, _∙_}
+use mathlib.Core.Logic.{inl, inr}
+use mathlib.Core.List.{List}
 use lib.ListN.{length, getD, set}
 use lib.Seq.{getD-set-same, getD-set-other}
 use lib.Pow.{pow-lt}
 use lib.Bits.{bitOr}
 use Rattle.terms.specs.Term.{Term, Subst, sub}
-use Rattle.terms.specs.Cells.{Atom}
 use Rattle.terms.specs.Mask.{Has}
 use Rattle.terms.proofs.Masks.{has-or, has-one}
 use Rattle.marks.specs.Modes.{modes}
 use Rattle.program.specs.Program.{Nth, Clause, Program}
 use Rattle.program.specs.Shapes.{shapes}
-use Rattle.program.proofs.Nths.{nth-below, below-nth}
-use Rattle.program.proofs.ShapeLaws.{nth-same}
+use Rattle.program.proofs.Nths.{nth-below}
 use Rattle.directory.specs.Layout.{clauseHead, bodyStart, shapeStart, shapeCells, dirWords}
 use Rattle.directory.specs.Directory.{predicateOf}
-use Rattle.rows.specs.Rows.{rowSize, masks, slotAt, maskAt, keyAt, keysOf}
+use Rattle.rows.specs.Rows.{slotAt, maskAt, keyAt, keysOf}
 use Rattle.rows.proofs.Keys.{key-slot, key-mask, key-listed}
 use Rattle.table.specs.Rules.{Row, call, cont, solution}
 use Rattle.table.specs.Table.{mask}
-use Rattle.table.specs.Keys.{slotOf, keyOf, rowOf, Regular, regular-call, regular-cont, regular-solution, bodyIndex, firstCont, firstSolution}
+use Rattle.table.specs.Keys.{slotOf, rowOf, Regular, regular-call, regular-cont, regular-solution, bodyIndex}
 use Rattle.table.specs.Steps.{opens, makes, ends-in}
 use Rattle.table.specs.NewRows.{New, NewReached, new-on-head, NewIn}
 use Rattle.table.proofs.Keys.{mask-small}
@@ -37,7 +35,7 @@ use Rattle.steps.proofs.BodyAtoms.{some-cells, predicate-there}
 use Rattle.steps.proofs.ShapeAtoms.{shape-is-atom}
 use Rattle.steps.proofs.SlotRows.{in-slot}
 use Rattle.analysis.specs.Unpacked.{Stands}
-use Rattle.analysis.specs.Active.{Concerns, by-call, by-cont, by-solution, Noted, HeadsNoted, BodiesNoted, Indexed, ShapeAsked}
+use Rattle.analysis.specs.Active.{Concerns, by-call, by-cont, by-solution, Noted, HeadsNoted, BodiesNoted, ShapeAsked}
 use Rattle.analysis.proofs.HeadMarks.{one-predicate}
 
 -- a round looks at nothing in a clause that no new row concerns

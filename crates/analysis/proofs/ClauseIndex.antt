@@ -5,13 +5,12 @@ use native.Mathlib.Decide.{decLt, ℕ-discrete}
 use mathlib.Core.Path.{_≡_, refl, sym, subst, _∙_}
 use mathlib.Core.Logic.{inl, inr}
 use mathlib.Core.List.{List}
-use lib.ListN.{length, getD}
+use lib.ListN.{getD}
 use lib.Bits.{bitOr}
 use Rattle.terms.specs.Mask.{Has}
 use Rattle.terms.proofs.Masks.{has-or}
 use Rattle.program.specs.Program.{Nth, Clause, Program}
 use Rattle.program.proofs.Nths.{nth-below, below-nth}
-use Rattle.program.proofs.ShapeLaws.{nth-same}
 use Rattle.directory.specs.Layout.{clauseHead, clauseCount, bodyStart, bodyCount}
 use Rattle.directory.specs.Directory.{predicateOf}
 use Rattle.rows.specs.Rows.{slotAt, maskAt}
@@ -21,7 +20,7 @@ use Rattle.table.specs.Keys.{slotOf, Regular, bodyIndex}
 use Rattle.steps.specs.Situation.{Setting, Situation, BodyOf}
 use Rattle.steps.proofs.Bodies.{first-body, body-there}
 use Rattle.analysis.specs.Unpacked.{Stands}
-use Rattle.analysis.specs.Active.{Concerns, Noted, HeadsNoted, BodiesNoted, Indexed}
+use Rattle.analysis.specs.Active.{Concerns, Noted, HeadsNoted, BodiesNoted}
 use Rattle.analysis.proofs.ActiveClauses.{head-first, body-first}
 
 -- the clauses below n are noted for their heads, and the body atoms below n

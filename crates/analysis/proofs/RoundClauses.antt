@@ -18,7 +18,7 @@ use Rattle.table.proofs.Looking.{by-clauses}
 use Rattle.table.proofs.Promise.{sound-same}
 use Rattle.steps.specs.Steps.{RowsIn, Writable, Grew, Stepped}
 use Rattle.steps.specs.Situation.{Situation, HeadAsked}
-use Rattle.analysis.specs.Active.{Concerns, Indexed, RoundAsked, LookAsked}
+use Rattle.analysis.specs.Active.{Concerns, LookAsked}
 use Rattle.steps.proofs.Stepping.{keys-stay, grew-none, stepped-then, stepped-must}
 use Rattle.analysis.proofs.MiddlePlaces.{below-one-more}
 use Rattle.analysis.proofs.ClauseRows.{stands-on}

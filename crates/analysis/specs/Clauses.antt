@@ -6,7 +6,7 @@ use mathlib.Core.List.{List}
 use lib.ListN.{length, replicate}
 use Rattle.marks.specs.Modes.{modes}
 use Rattle.program.specs.Program.{Program}
-use Rattle.rows.specs.Rows.{rowSize, slots, buckets as bucketCount, maxRows, masks, roundAt, slotAt, maskAt, keyAt, keysOf}
+use Rattle.rows.specs.Rows.{rowSize, slots, buckets as bucketCount, maxRows, roundAt, keyAt, keysOf}
 use Rattle.rows.specs.MaskSet.{setWords}
 use Rattle.table.specs.Rules.{Row, call}
 use Rattle.table.specs.Steps.{EndsIn}

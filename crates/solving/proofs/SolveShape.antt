@@ -1,13 +1,14 @@
 -- Rule 3 for one shape: the marks in the set pass to it one after another, while the rows that were there stay.
-use Prim.Native.Nat.{ℕ, _+_, _≤_, _<_}
+use Prim.Native.Nat.{ℕ, _+_, _*_, _/_, _%_, _≤_, _<_}
 use native.Mathlib.Omega.{arith}
-use native.Mathlib.Decide.{ℕ-discrete}
+use native.Mathlib.Decide.{decLt, ℕ-discrete}
 use mathlib.Core.Path.{_≡_, sym, subst}
 use mathlib.Core.Logic.{_⊎_, inl, inr}
 use mathlib.Core.List.{List, []}
-use lib.ListN.{length}
+use lib.ListN.{length, getD}
 use Rattle.terms.specs.Cells.{variables}
 use Rattle.terms.specs.Mask.{Marks}
+use Rattle.terms.proofs.Masks.{has-none}
 use Rattle.marks.specs.Modes.{modes}
 use Rattle.marks.specs.Passing.{MarkedIn}
 use Rattle.marks.proofs.PassedOn.{second-to-first}
@@ -103,10 +104,22 @@ module _ {table₀ : List ℕ} {since old newest slot : ℕ} (w : ToShape table�
         at key row m b i by e (yes d) = absurd (out (rw d at i))
         at key row m b i by e (no d) = (row, (m, omega arith, i, by), e)
 
+    -- none is in the set from q on and below r
+    pub through-none : (r : ℕ) → ((m : ℕ) → q ≤ m → m < r → InSet found m → ⊥) → Through r rows table buckets
+    through-none r none =
+        grew-must (w .p) (keysOf table₀ old) round room n rows table₀ buckets₀ table buckets (Keyed (w .p) (SolvedBelow w from found q)) _
+        (λ key (row, (m, b, i, by), e). at key row m b i by e (decLt m q)) g
+      where
+        at : (key : ℕ) (row : Row ℕ) (m : ℕ) → m < r → InSet found m → SolvedBy w from m row → key ≡ keyOf (w .p) row → Dec (m < q) → Keyed (w .p) (SolvedBelow w from found q) key
+        at key row m b i by e (yes d) = (row, (m, d, i, by), e)
+        at key row m b i by e (no d) = absurd (none m (omega arith) b i)
+
     -- all that are asked for
-    pub through-ends : (marks : ℕ) → q ≡ marks
+    pub through-ends : (marks : ℕ) → marks ≤ q
         → Stepped (w .p) (keysOf table₀ old) round room n table₀ buckets₀ (Keyed (w .p) (SolvedBelow w from found marks)) rows table buckets
-    through-ends marks e = rw (← e) (inl g)
+    through-ends marks l =
+        inl (grew-must (w .p) (keysOf table₀ old) round room n rows table₀ buckets₀ table buckets (Keyed (w .p) (SolvedBelow w from found q)) _
+        (λ key (row, (m, b, i, by), e). (row, (m, omega arith, i, by), e)) g)
 
     module _ (behind : old ≤ n) where
       abbrev now-there : ToShape table since old newest slot
@@ -134,3 +147,9 @@ module _ {table₀ : List ℕ} {since old newest slot : ℕ} (w : ToShape table�
             at : (key : ℕ) (row : Row ℕ) (m : ℕ) → m < q + 1 → InSet found m → SolvedBy w from m row → key ≡ keyOf (w .p) row → Dec (m ≡ q) → Both key
             at key row m b i by e (yes d) = inr (row, solved-stays w table n behind (g .same-rows) (g .same-length) from q row within-old (rw d at by), e)
             at key row m b i by e (no d) = inl (row, (m, omega arith, i, by), e)
+
+-- an empty word has no mark
+pub empty-word : (found : List ℕ) (q r : ℕ) → getD found (q / 16) 0 ≡ 0 → r ≡ q / 16 * 16 + 16 → (m : ℕ) → q < m → m < r → InSet found m → ⊥
+empty-word found q r none e m l h in-set =
+    let f : m / 16 ≡ q / 16 = omega arith in
+    has-none (m % 16) (rw (f, none) at in-set)

@@ -17,8 +17,11 @@ use steps::place::Round;
 use steps::place::SOLUTIONS;
 use terms::walk::narrow;
 use terms::walk::wide;
-ghost use Prim.Native.Nat.{ℕ, _≤_};
-ghost use Rattle.rows.specs.Rows.{keysOf};
+ghost use mathlib.Core.Path.{_≡_};
+ghost use Prim.Native.Nat.{ℕ, _+_, _≤_, _<_};
+ghost use lib.ListN.{length};
+ghost use Rattle.rows.specs.Rows.{masks, keysOf};
+ghost use Rattle.rows.specs.MaskSet.{setWords, InSet};
 ghost use Rattle.table.specs.RoundKeys.{Keyed};
 ghost use Rattle.steps.specs.Situation.{Situation};
 ghost use Rattle.steps.specs.Steps.{Writable, Stepped};
@@ -65,6 +68,17 @@ fn solve_calls(
     rows
 }
 
+// The mark after q to look at: the rest of an empty word has none.
+fn next_mark(found: &[u16], q: usize) -> usize
+    requires { ⌜ (length (now found) ≡ setWords) × (q < masks) ⌝ }
+    ensures { λ r. ⌜ (q < r) × (r ≤ q + 16) × ((m : ℕ) → q < m → m < r → InSet (now (found .entry)) m → ⊥) ⌝ }
+{
+    if found[q / 16] == 0 {
+        return q / 16 * 16 + 16;
+    }
+    q + 1
+}
+
 // The marks on the head that the set has, to one shape.
 fn solve_shape(
     table: &mut [u16],
@@ -96,7 +110,7 @@ fn solve_shape(
                 return rows;
             }
         }
-        q += 1;
+        q = next_mark(found, q);
     }
     rows
 }

@@ -1,7 +1,6 @@
 -- `middle_places` meets its contract: the places passed have their rows. The measure is how many are left. Assumes nothing.
 use Prim.Native.Nat.{_-_, _≤_}
 use native.Mathlib.Omega.{arith}
-use borrow.Author.Needs.{needs}
 use mathlib.Core.Path.{_≡_, refl, _∙_}
 use mathlib.Core.Logic.{inr}
 use lib.ListN.{length, replicate}

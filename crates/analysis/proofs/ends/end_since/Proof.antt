@@ -3,7 +3,7 @@ use Prim.Native.Nat.{ℕ, _+_, _*_, _/_, _%_, _^_, _≤_}
 use native.Mathlib.Omega.{arith}
 use borrow.Author.Needs.{needs}
 use borrow.Author.Tests.{not-true}
-use mathlib.Core.Path.{_≡_, ap, _∙_}
+use mathlib.Core.Path.{ap, _∙_}
 use lib.ListN.{length, length-replicate}
 use Rattle.rows.specs.MaskSet.{setWords}
 use Rattle.steps.proofs.Stepping.{stepped-none, stepped-must}

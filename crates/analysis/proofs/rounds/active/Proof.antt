@@ -1,5 +1,5 @@
 -- `active` meets its contract: the clauses that the rows passed concern are in the set. The measure is how many rows are left. Assumes nothing.
-use Prim.Native.Nat.{ℕ, _-_, _≤_, _<_}
+use Prim.Native.Nat.{_-_, _≤_}
 use native.Mathlib.Omega.{arith}
 use Rattle.steps.specs.Situation.{Situation}
 use Rattle.analysis.specs.Active.{Indexed}

@@ -1,5 +1,5 @@
 -- `rounds` meets its contract: after each turn the rows are those of a round. The measure is the room that is left: a turn adds a row. Assumes nothing.
-use Prim.Native.Nat.{_-_, _≤_, _<_}
+use Prim.Native.Nat.{_-_, _<_}
 use native.Mathlib.Omega.{arith}
 use borrow.Author.Needs.{needs}
 use mathlib.Core.Path.{_≡_, refl, _∙_}
