@@ -1,15 +1,14 @@
 /*
  * Threadknoll: the mode table of a scenario, proved.
  *
- * Four functions over lent buffers. There is no heap, no global state and no fault of the caller's that is not answered: any bytes, any
- * words and any lengths get a reply, and the caller checks nothing first. Each function is proved to keep what is said here; the exact
- * promises are listed in docs/PROMISES.md.
+ * Four functions over lent buffers. There is no heap and no global state. Any bytes, any words and any lengths get a reply, and the caller
+ * checks nothing first. Each function is proved to keep its promise, listed in docs/PROMISES.md; this header says it in plain words.
  *
  * A reply is a number, which is handed back, a place and a count, which are put behind the two pointers. 0 is "accepted": the place is
  * then 0, the count says how much was written, and the rest of each lent buffer is zeros. Every other number is a refusal: the count is
- * then 0, and every word and byte of the lent output is 0.
+ * then 0, and every word and byte of the lent output is 0. Places are word indexes for words, and byte offsets for texts and names.
  *
- * A pointer may be anything valid, also for length 0, but never NULL; buffers do not overlap.
+ * Pointers are valid, aligned and never NULL, also for length 0; no two of the buffers, *place and *count overlap.
  */
 #ifndef THREADKNOLL_H
 #define THREADKNOLL_H
@@ -21,7 +20,7 @@
 extern "C" {
 #endif
 
-/* Rooms that are always enough for words and names, the most rows that a table has, and what `modes` lends for a listing. */
+/* The limits: the longest text that is read or written, rooms that are always enough for words and names, the most rows that a table has. */
 #define THREADKNOLL_MAX_TEXT 40960   /* bytes of a scenario text */
 #define THREADKNOLL_MAX_WORDS 2048   /* words of an encoded program */
 #define THREADKNOLL_MAX_NAMES 2048   /* bytes of its names: 16 for each of at most 128 symbols */
@@ -73,8 +72,9 @@ uint16_t threadknoll_write(const uint16_t *words, size_t words_length,
 /*
  * The mode table of an encoded program; the count is in rows, and the room in rows is table_length / 5, at most 4,096.
  * An accepted table is the least set of rows closed under the mode rules, each row once, with the round in which it first appears, in
- * ascending order of the five words. In any run of the program, every atom called is covered by a call row of its shape and every atom
- * solved by a solution row: a variable of a shape that every call row of that shape marks ground is ground at every call of that shape.
+ * ascending order of the five words. In any run of the program, every atom called is covered by a call row of the shape that it was written
+ * in, and every atom solved by a solution row of that shape: a variable that every call row of a shape marks ground is ground at every call
+ * of an atom written in that shape.
  */
 uint16_t threadknoll_analyse(const uint16_t *words, size_t words_length,
                              uint16_t *table, size_t table_length,
@@ -82,7 +82,7 @@ uint16_t threadknoll_analyse(const uint16_t *words, size_t words_length,
 
 /*
  * The mode table of an encoded program with its names, as threadknoll_analyse leaves it, and its listing, as `modes` prints it; the count is
- * in bytes of the listing. Room for rows comes before room for bytes; where either is too small, both buffers are zeros.
+ * in bytes of the listing. Names are checked as by threadknoll_write. Room for rows comes before room for bytes; where either is too small, both buffers are zeros.
  */
 uint16_t threadknoll_list(const uint16_t *words, size_t words_length,
                           const uint8_t *names, size_t names_length,

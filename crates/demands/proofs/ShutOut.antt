@@ -1,4 +1,4 @@
--- "Show these shut out": no wrong analysis of `Wrong` keeps the promise on *Legs* and *Late call*, whatever it makes up and whatever analysis it goes wrong over.
+-- "Show these shut out": no wrong analysis of `Wrong` keeps the promise on *Legs* and *Late call*, whatever analysis it goes wrong over; and `no-other` shuts out all the rest.
 -- The idea: the promise has one reply and one table for each of the two, and a wrong one's are other.
 use Prim.Native.Nat.{ℕ, suc, _≤_, min}
 use native.Mathlib.Omega.{arith}
