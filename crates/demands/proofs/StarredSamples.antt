@@ -2,7 +2,7 @@
 use Prim.Native.Nat.{ℕ, zero, suc, _≤_}
 use native.Mathlib.Omega.{arith}
 use native.Mathlib.Decide.{ℕ-discrete, decLt}
-use mathlib.Core.Path.{_≡_, refl}
+use mathlib.Core.Path.{_≡_, refl, sym}
 use mathlib.Core.List.{List, [], _∷_}
 use lib.ListN.{replicate}
 use Rattle.terms.specs.Term.{Term, Terms, var, app, nil, cons}
@@ -10,7 +10,7 @@ use Rattle.program.specs.Reading.{bounded, several}
 use Rattle.program.specs.Atoms.{terms, atom, atoms}
 use Rattle.program.specs.Program.{Program}
 use Rattle.program.specs.Faults.{clause, goal, written, declared, whole, fault, sound, faults}
-use Rattle.program.specs.Reply.{badVariable, longAtom}
+use Rattle.program.specs.Reply.{badVariable, longAtom, done}
 use Rattle.program.proofs.ListLaws.{listed-decided}
 use Rattle.program.proofs.ShapeLaws.{member-decided}
 use Rattle.table.specs.Rules.{call}
@@ -21,11 +21,14 @@ use Rattle.table.proofs.Samples.{legs, late}
 use Rattle.table.proofs.Promise.{more-than-length}
 use Rattle.table.proofs.PromiseMet.{rows, tableAt, computed-table}
 use Rattle.table.proofs.TableSamples.{legs-entries, legs-table, late-entries, late-table}
+use Rattle.text.specs.Room.{inRoom}
 use Rattle.reader.specs.Table.{right}
 use Rattle.reader.specs.Read.{readOf}
+use Rattle.reader.proofs.Hands.{front-is}
 use Rattle.lister.specs.Listed.{namesFor, listed as by-listing}
-use Rattle.demands.specs.Bytes.{named}
-use Rattle.demands.specs.Sample.{_in-round_, says, misread, leaves, too-many, lists, faulty, Holds}
+use Rattle.printing.specs.Printed.{tableRoom, listingRoom, PrintedOf, read}
+use Rattle.demands.specs.Bytes.{bytes, named}
+use Rattle.demands.specs.Sample.{_in-round_, table-of, says, misread, leaves, too-many, lists, prints, faulty, Holds}
 use Rattle.demands.specs.SamplePrograms.{legs-text, legs-words, legs-names, legs-rows, legs-listing, itself-text, itself-words, late-text, late-words, late-rows}
 use Rattle.demands.specs.SamplePrograms.{cells-32-text, cells-33-text, nested-words, v15-text, v16-text, many-words}
 
@@ -72,10 +75,22 @@ legs-too-many = full legs legs-sound (more-than-length legs legs-entries legs-ta
 legs-named : namesFor legs (named legs-names) ≡ right (named legs-names)
 legs-named = refl
 
-pub legs-lists : Holds (lists legs-words legs-names 35 135 legs-rows legs-listing)
+pub legs-lists : (size room : ℕ) → 7 ≤ roomIn size → 135 ≤ room → Holds (lists legs-words legs-names size room legs-rows legs-listing)
 unfolding ℕ-discrete
-legs-lists =
-    by-listing legs legs-rows (record { program = legs-sound; named = legs-named; rows = legs-table; analysed = legs-leaves 35 (omega arith) }) (omega arith) refl refl
+legs-lists size room rows fits =
+    by-listing legs legs-rows (record { program = legs-sound; named = legs-named; rows = legs-table; analysed = legs-leaves size rows }) fits refl refl
+
+legs-printed-of : PrintedOf legs-words (named legs-names) (bytes legs-listing)
+legs-printed-of = record {
+  reply = done 135;
+  table = table-of tableRoom legs-rows;
+  out = inRoom listingRoom (bytes legs-listing);
+  listed = legs-lists tableRoom listingRoom (omega arith) (omega arith);
+  shows = sym (front-is listingRoom (bytes legs-listing) _ refl (omega arith));
+}
+
+pub legs-prints : Holds (prints legs-text legs-listing)
+legs-prints = read _ legs-says legs-printed-of
 
 late-sound : faults late-words ≡ sound late
 unfolding bounded several terms atom atoms clause goal written declared whole faults

@@ -11,6 +11,7 @@ use Rattle.text.specs.Room.{inRoom}
 use Rattle.reader.specs.Table.{wrong, right}
 use Rattle.reader.specs.Read.{readOf}
 use Rattle.lister.specs.Listed.{Listed}
+use Rattle.printing.specs.Printed.{Printed}
 use Rattle.demands.specs.Bytes.{bytes, named}
 
 infix 68 _in-round_
@@ -30,6 +31,8 @@ pub data Sample : Type 0 where
   too-many : (words : List ℕ) (size : ℕ) (room : ℕ) → Sample
   -- the listing of the words with these names, with so many words of table and so many bytes lent, is exactly this, and the table has these rows
   lists : (words : List ℕ) (names : List String) (size room : ℕ) (rows : List Entry) (listing : String) → Sample
+  -- for the text `modes` prints exactly this
+  prints : (text printed : String) → Sample
   -- the words are refused with this number and place, whatever the room
   faulty : (words : List ℕ) (number place : ℕ) → Sample
 
@@ -37,7 +40,7 @@ pub data Sample : Type 0 where
 abbrev pub table-of : ℕ → List Entry → List ℕ
 table-of size rows = tableWords rows ++ replicate (size - rowSize * length rows) 0
 
--- what the definitions must say of it; each promise has one reply and leaves one thing (`Demand1`)
+-- what the definitions must say of it; each promise has one reply and leaves one thing (`Demand1`), and one thing is printed for a text (`printed-unique`)
 abbrev pub Holds : Sample → Type 0
 Holds (says text words names) = readOf (bytes text) ≡ right (record { words = words; names = named names })
 Holds (misread text number place) = readOf (bytes text) ≡ wrong number place
@@ -45,6 +48,7 @@ Holds (leaves words size rows) = Promise words size (done (length rows)) (table-
 Holds (too-many words size room) = Promise words size (refused noRoom room) (replicate size 0)
 Holds (lists words names size room rows listing) =
     Listed words (named names) size room (done (length (bytes listing))) (table-of size rows) (inRoom room (bytes listing))
+Holds (prints text printed) = Printed (bytes text) (bytes printed)
 Holds (faulty words number place) = (size : ℕ) → Promise words size (refused number place) (replicate size 0)
 
 -- all of a list hold

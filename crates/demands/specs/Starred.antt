@@ -3,7 +3,7 @@ use mathlib.Core.List.{List, [], _∷_}
 use lib.ListN.{replicate}
 use Rattle.program.specs.Reply.{tooSoon, badVariable, longAtom}
 use Rattle.table.specs.Rules.{call}
-use Rattle.demands.specs.Sample.{_in-round_, Sample, says, misread, leaves, too-many, lists, faulty}
+use Rattle.demands.specs.Sample.{_in-round_, Sample, says, misread, leaves, too-many, lists, prints, faulty}
 use Rattle.demands.specs.SamplePrograms.{legs-text, legs-words, legs-names, legs-rows, legs-listing, itself-text, itself-words, late-text, late-words, late-rows}
 use Rattle.demands.specs.SamplePrograms.{cells-32-text, cells-33-text, nested-words, v15-text, v16-text, many-words}
 
@@ -14,6 +14,8 @@ starred =
     ∷ leaves legs-words 35 legs-rows
     ∷ too-many legs-words 34 6
     ∷ lists legs-words legs-names 35 135 legs-rows legs-listing
+    -- "Text, then what `modes` prints"
+    ∷ prints legs-text legs-listing
     -- "words 1 0 0 0 0 0 (one row); the empty slice (1, place 0)"
     ∷ leaves (1 ∷ 0 ∷ 0 ∷ 0 ∷ 0 ∷ 0 ∷ []) 5 (call 0 0 in-round 0 ∷ [])
     ∷ faulty [] tooSoon 0
