@@ -28,7 +28,7 @@ use Rattle.table.proofs.Entries.{ascending-append}
 use Rattle.table.proofs.RoundEntries.{rounded-table}
 use Rattle.table.proofs.RoundKeys.{keyed-row}
 use Rattle.steps.specs.Situation.{Setting}
-use Rattle.analysis.specs.Clauses.{Complete}
+use Rattle.rounds.specs.Rounds.{Complete}
 use Rattle.analysis.specs.Unpacked.{Packed}
 
 -- the entries of the first n rows

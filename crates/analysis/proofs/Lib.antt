@@ -1,13 +1,4 @@
--- The laws of the rounds and of the finished table.
-pub mod MiddlePlaces
-pub mod HeadMarks
-pub mod ClauseRows
-pub mod ActiveClauses
-pub mod ClauseIndex
-pub mod RoundClauses
-pub mod ClearedMarks
-pub mod Endings
-pub mod RoundByRound
+-- The laws of the finished table and of the replies.
 pub mod Unpacking
 pub mod LastRows
 pub mod Replies

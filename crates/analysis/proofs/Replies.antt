@@ -13,7 +13,7 @@ use Rattle.program.specs.Faults.{Found, fault, sound, faults, replyOf}
 use Rattle.program.specs.Reply.{done}
 use Rattle.program.specs.declared.reply.Reply.{Reply}
 use Rattle.table.specs.Table.{rowSize, roomIn, MoreThan, Promise, faulty, listed}
-use Rattle.analysis.specs.Clauses.{Complete, Finished}
+use Rattle.rounds.specs.Rounds.{Complete, Finished}
 use Rattle.analysis.specs.Finished.{InTable}
 
 -- "The room in rows is the length over five, rounded down, but at most 4,096."

@@ -1,106 +1,37 @@
--- Rows unpacked: the clause of a body atom, a row's words from its slot, and the rows passed as entries.
-use Prim.Native.Nat.{ℕ, zero, suc, _+_, _-_, _*_, _≤_, _<_}
+-- Rows unpacked: a row's words from its slot, and the rows passed as entries.
+use Prim.Native.Nat.{ℕ, suc, _+_, _-_, _*_, _≤_, _<_}
 use native.Mathlib.Omega.{arith}
-use native.Mathlib.Decide.{decLt}
 use mathlib.Core.Path.{_≡_, refl, sym, ap, _∙_}
 use mathlib.Core.List.{List, [], _∷_, _++_, append-assoc, append-nil}
 use lib.ListN.{length, getD, set, take, drop}
 use lib.Seq.{length-take-le, take-length, drop-cons, getD-append-add, getD-drop}
-use Rattle.terms.specs.Term.{Term}
-use Rattle.program.specs.Program.{Nth, here, there, Clause, Program}
-use Rattle.program.specs.Shapes.{shapes}
-use Rattle.program.proofs.Nths.{nth-below, below-nth}
-use Rattle.directory.specs.Layout.{clauseFirst, dirWords}
+use Rattle.program.specs.Program.{Nth, here, there, Program}
+use Rattle.program.proofs.Nths.{below-nth}
 use Rattle.rows.specs.Rows.{rowSize, slotAt, maskAt}
 use Rattle.table.specs.Rules.{Row, call, cont, solution}
 use Rattle.table.specs.Table.{Entry, rowWords, entryWords, tableWords, mask}
-use Rattle.table.specs.Keys.{bodyIndex, Regular, regular-call, regular-cont, regular-solution, slotOf}
-use Rattle.table.proofs.Keys.{index-below}
+use Rattle.table.specs.Keys.{Regular, regular-call, regular-cont, regular-solution, slotOf}
 use Rattle.table.proofs.Entries.{table-words-length, table-words-append}
 use Rattle.steps.specs.Situation.{Setting, BodyOf}
-use Rattle.analysis.specs.Unpacked.{withWords, withRow, Stands, Packed}
-use Rattle.steps.proofs.Meetings.{setting-within}
-use Rattle.steps.proofs.Bodies.{first-body}
-
-module _ {words dir : List ℕ} {p : Program} (s : Setting words dir p) where
-  -- the first body atoms of the clauses stand in order
-  firsts-rise : (k m : ℕ) → k + m ≤ length (p .clauses) → getD dir (clauseFirst + k) 0 ≤ getD dir (clauseFirst + (k + m)) 0
-  firsts-rise k zero l = let e : k + 0 ≡ k = omega arith in rw e (omega arith)
-  firsts-rise k (suc m) l =
-      let (c, hc) = below-nth (p .clauses) (k + m) (omega arith) in
-      let e : clauseFirst + (k + suc m) ≡ clauseFirst + suc (k + m) = omega arith in
-      let n = s .directory .clause hc .first-next in
-      let f = firsts-rise k m (omega arith) in
-      rw e (omega arith)
-
-  module _ (j : ℕ) (b : BodyOf p j) where
-    body-first : j ≡ getD dir (clauseFirst + b .k) 0 + b .i
-    body-first = b .is ∙ ap (λ (x : ℕ). x + b .i) (sym (first-body s (b .k) (let l = nth-below (b .nth-clause) in omega arith)))
-
-    -- a clause that ends before the body atom is one before its clause
-    pub clause-later : (k : ℕ) → k ≤ b .k → getD dir (clauseFirst + k + 1) 0 ≤ j → k + 1 ≤ b .k
-    clause-later k l h = at (decLt k (b .k))
-      where
-        at : Dec (k < b .k) → k + 1 ≤ b .k
-        at (yes d) = omega arith
-        at (no d) =
-            let e : clauseFirst + k + 1 ≡ clauseFirst + suc (b .k) = omega arith in
-            let n = s .directory .clause (b .nth-clause) .first-next in
-            let h′ : getD dir (clauseFirst + suc (b .k)) 0 ≤ j = rw e at h in
-            absurd (omega (arith, nth-below (b .nth-atom), body-first))
-
-    -- and one that ends behind it is its clause
-    pub clause-found : (k : ℕ) → k ≤ b .k → j < getD dir (clauseFirst + k + 1) 0 → k ≡ b .k
-    clause-found k l h = at (decLt k (b .k))
-      where
-        at : Dec (k < b .k) → k ≡ b .k
-        at (no d) = omega arith
-        at (yes d) =
-            let m : k + 1 + (b .k - (k + 1)) ≡ b .k = omega arith in
-            let f = firsts-rise (k + 1) (b .k - (k + 1)) (omega (arith, nth-below (b .nth-clause))) in
-            let g : getD dir (clauseFirst + (k + 1)) 0 ≤ getD dir (clauseFirst + b .k) 0 = rw m at f in
-            let e : clauseFirst + k + 1 ≡ clauseFirst + (k + 1) = omega arith in
-            let h′ : j < getD dir (clauseFirst + (k + 1)) 0 = rw e at h in
-            absurd (omega (arith, body-first))
-
-    pub clause-few : (b .k < 64) × (length dir ≡ dirWords)
-    clause-few = (omega (arith, nth-below (b .nth-clause), setting-within s .clauses-most), s .directory .size)
-
-    -- the place is what is left
-    pub place-left : j - getD dir (clauseFirst + b .k) 0 ≡ b .i
-    place-left = omega (arith, body-first)
-
-    pub place-few : (j < 1024) × (getD dir (clauseFirst + b .k) 0 ≤ j)
-    place-few = let d = s .directory in
-        (omega (arith, index-below p (b .nth-clause) (b .nth-atom), b .is, d .body-count, d .bodies-most), omega (arith, body-first))
+use Rattle.rounds.specs.Standing.{Stands}
+use Rattle.rounds.proofs.BodyClauses.{shapes-below, bodies-below}
+use Rattle.analysis.specs.Unpacked.{withWords, withRow, Packed}
 
 -- a row of a slot: its kind by where the slot stands
 module _ {words dir : List ℕ} {p : Program} (s : Setting words dir p) (table : List ℕ) (r : ℕ) where
-  shapes-below : {n : ℕ} {S : Term} → Nth (shapes p) n S → n < 2048
-  shapes-below h = let d = s .directory in omega (arith, nth-below h, d .shape-count, d .shapes-most)
-
-  bodies-below : {k i : ℕ} {c : Clause} {A : Term} → Nth (p .clauses) k c → Nth (c .body) i A → bodyIndex p k i < 2048
-  bodies-below hc hA = let d = s .directory in omega (arith, index-below p hc hA, d .body-count, d .bodies-most)
-
   pub as-call : (row : Row ℕ) → Regular p row → (slot m : ℕ) → slot ≡ slotOf p row → m ≡ mask row → slot < 2048 → withWords table r 1 slot 0 m ≡ withRow table r row
   as-call _ (regular-call hs w l) slot m e f h = rw (e, f) refl
   as-call _ (regular-cont hc hA w l) slot m e f h = absurd (omega arith)
   as-call _ (regular-solution hs w l) slot m e f h = absurd (omega arith)
 
   pub as-solution : (row : Row ℕ) → Regular p row → (slot m : ℕ) → slot ≡ slotOf p row → m ≡ mask row → 4096 ≤ slot → withWords table r 3 (slot - 4096) 0 m ≡ withRow table r row
-  as-solution _ (regular-call hs w l) slot m e f h = absurd (omega (arith, shapes-below hs))
-  as-solution _ (regular-cont hc hA w l) slot m e f h = absurd (omega (arith, bodies-below hc hA))
+  as-solution _ (regular-call hs w l) slot m e f h = absurd (omega (arith, shapes-below s hs))
+  as-solution _ (regular-cont hc hA w l) slot m e f h = absurd (omega (arith, bodies-below s hc hA))
   as-solution _ (regular-solution {s = n} hs w l) slot m e f h = let d : slot - 4096 ≡ n = omega arith in rw (d, f) refl
-
-  pub cont-body : (row : Row ℕ) → Regular p row → (slot : ℕ) → slot ≡ slotOf p row → 2048 ≤ slot → slot < 4096 → BodyOf p (slot - 2048)
-  cont-body _ (regular-call hs w l) slot e h h′ = absurd (omega (arith, shapes-below hs))
-  cont-body _ (regular-cont {k = k} {i = i} {c = c} {A = A} hc hA w l) slot e h h′ =
-      record { k = k; i = i; c = c; A = A; nth-clause = hc; nth-atom = hA; is = omega arith }
-  cont-body _ (regular-solution hs w l) slot e h h′ = absurd (omega arith)
 
   pub as-cont : (row : Row ℕ) → Regular p row → (slot m k i : ℕ) → slot ≡ slotOf p row → m ≡ mask row → 2048 ≤ slot → slot < 4096
       → ((b : BodyOf p (slot - 2048)) → (k ≡ b .k) × (i ≡ b .i)) → withWords table r 2 (k + 1) (i + 1) m ≡ withRow table r row
-  as-cont _ (regular-call hs w l) slot m k i e f h h′ found = absurd (omega (arith, shapes-below hs))
+  as-cont _ (regular-call hs w l) slot m k i e f h h′ found = absurd (omega (arith, shapes-below s hs))
   as-cont _ (regular-cont {k = k′} {i = i′} {c = c} {A = A} hc hA w l) slot m k i e f h h′ found =
       let (d, d′) = found (record { k = k′; i = i′; c = c; A = A; nth-clause = hc; nth-atom = hA; is = omega arith }) in
       let a : k + 1 ≡ suc k′ = omega arith in

@@ -6,7 +6,7 @@ use lib.ListN.{length, replicate}
 use Rattle.program.specs.Program.{Program}
 use Rattle.table.specs.Table.{Entry, rowSize, tableWords, TableOf}
 use Rattle.steps.specs.Situation.{Setting}
-use Rattle.analysis.specs.Clauses.{Complete}
+use Rattle.rounds.specs.Rounds.{Complete}
 
 pub record FinishAsked (words dir table : List ℕ) (rows : ℕ) : Type 0 where
   pub p : Program

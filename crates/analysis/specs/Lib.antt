@@ -1,5 +1,3 @@
--- What the rounds keep, and the table when they are over.
-pub mod Active
-pub mod Clauses
+-- The table when the rounds are over.
 pub mod Unpacked
 pub mod Finished

@@ -8,7 +8,7 @@ use Rattle.rows.specs.Rows.{rowSize, roundAt, slotAt, maskAt}
 use Rattle.table.specs.Rules.{Row, call, cont, solution}
 use Rattle.table.specs.Table.{Entry, mask}
 use Rattle.table.specs.Keys.{Regular, slotOf}
-use Rattle.steps.specs.Situation.{Setting, BodyOf}
+use Rattle.steps.specs.Situation.{Setting}
 
 -- the table with the kind, a, b and the mask of row r written
 abbrev pub withWords : List ℕ → ℕ → ℕ → ℕ → ℕ → ℕ → List ℕ
@@ -21,15 +21,6 @@ withRow table r (call s M) = withWords table r 1 s 0 M
 withRow table r (cont n i M) = withWords table r 2 n i M
 withRow table r (solution s M) = withWords table r 3 s 0 M
 
--- row r of the table is this row of the program
-pub record Stands (words dir table : List ℕ) (r : ℕ) : Type 0 where
-  pub p : Program
-  pub setting : Setting words dir p
-  pub row : Row ℕ
-  pub regular : Regular p row
-  pub slot : slotAt table r ≡ slotOf p row
-  pub its-mask : maskAt table r ≡ mask row
-
 -- the first n rows of the table are these entries
 pub record Packed (words dir table : List ℕ) (n : ℕ) : Type 0 where
   pub p : Program
@@ -38,9 +29,3 @@ pub record Packed (words dir table : List ℕ) (n : ℕ) : Type 0 where
   pub many : length entries ≡ n
   pub fits : rowSize * n ≤ length table
   pub each : (r : ℕ) (e : Entry) → Nth entries r e → Regular p (e .row) × (roundAt table r ≡ e .round) × (slotAt table r ≡ slotOf p (e .row)) × (maskAt table r ≡ mask (e .row))
-
--- body atom j is one of the program
-pub record Belongs (words dir : List ℕ) (j : ℕ) : Type 0 where
-  pub p : Program
-  pub setting : Setting words dir p
-  pub body : BodyOf p j

@@ -1,11 +1,11 @@
 // The analysis of an encoded program: its table, or why there is none.
-use crate::rounds::rounds;
 use crate::unpack::unpack;
 use directory::directory;
 use program::reply::ACCEPTED;
 use program::reply::NO_ROOM;
 use program::reply::Reply;
 use program::scan::scan;
+use rounds::rounds::rounds;
 use rows::order::sort;
 use rows::row::MAX_ROWS;
 use rows::row::ROW_SIZE;

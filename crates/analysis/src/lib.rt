@@ -1,6 +1,3 @@
-// The analysis: the mode rules, round by round, until a round adds no row; and the table in its order.
+// The analysis: the rows of the rounds put in order and written as the table.
 pub mod analyse;
-pub mod clauses;
-pub mod ends;
-pub mod rounds;
 pub mod unpack;

@@ -1,5 +1,6 @@
 // Rows as they stand at the end: round, kind, a, b, mask.
 use directory::layout::CLAUSE_FIRST;
+use rounds::bodies::clause_of;
 use rows::row::ROW_SIZE;
 use rows::row::mask_at;
 use rows::row::slot_at;
@@ -13,25 +14,14 @@ ghost use Prim.Native.Nat.{_+_, _*_, _<_};
 ghost use lib.ListN.{length, drop};
 ghost use Rattle.rows.specs.Rows.{rowSize};
 ghost use Rattle.table.specs.Table.{tableWords};
-ghost use Rattle.analysis.specs.Unpacked.{withWords, withRow, Stands, Packed, Belongs};
+ghost use Rattle.analysis.specs.Unpacked.{withWords, withRow, Packed};
+ghost use Rattle.rounds.specs.Standing.{Stands};
 
 const CALL: u16 = 1;
 
 const CONT: u16 = 2;
 
 const SOLUTION: u16 = 3;
-
-// The clause, from 0, of body atom j.
-pub fn clause_of(words: &[u16], dir: &[u16], j: usize) -> usize
-    requires { ⌜ Belongs (now words) (now dir) j ⌝ }
-    ensures { λ k. ⌜ ((w : Belongs (now (words .entry)) (now (dir .entry)) j) → k ≡ w .body .k) ⌝ }
-{
-    let mut k = 0;
-    while wide(dir[CLAUSE_FIRST + k + 1]) <= j {
-        k += 1;
-    }
-    k
-}
 
 // Writes all of row r but its round.
 fn write(table: &mut [u16], r: usize, kind: u16, a: u16, b: u16, mask: u16)

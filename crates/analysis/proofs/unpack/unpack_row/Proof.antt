@@ -3,7 +3,8 @@ use Prim.Native.Nat.{_+_, _-_, _≤_}
 use native.Mathlib.Omega.{arith}
 use mathlib.Core.Path.{_≡_, _∙_}
 use lib.ListN.{getD}
-use Rattle.analysis.proofs.Unpacking.{clause-few, place-few, place-left, cont-body, as-call, as-cont, as-solution}
+use Rattle.rounds.proofs.BodyClauses.{clause-few, place-few, place-left, cont-body}
+use Rattle.analysis.proofs.Unpacking.{as-call, as-cont, as-solution}
 use borrow.Author.Needs.{needs}
 use Rattle.analysis.proofs.unpack.unpack_row.Statement.{statement}
 use Rattle.analysis.proofs.unpack.unpack_row.Tie as tie
@@ -24,25 +25,25 @@ write-requires : tie.Need-write-requires
 write-requires c κs = search needs
 
 clause-of-requires : tie.Need-clause-of-requires
-clause-of-requires c κs = let w = c .before .before .before .before .before .before .before .before .before .before .pre .0 in (record { p = w .p; setting = w .setting; body = (cont-body (w .setting) (c .before .before .before .before .before .before .before .before .before .before .args .table .now) (c .before .before .before .before .before .before .before .before .before .before .args .r) (w .row) (w .regular) (c .before .before .before .before .wide .result) (c .before .before .before .before .wide .ensures .0 ∙ c .before .before .before .before .before .slot-at .ensures ∙ w .slot) (c .before .if1 .left) (c .if2 .taken)) })
+clause-of-requires c κs = let w = c .before .before .before .before .before .before .before .before .before .before .pre .0 in (record { p = w .p; setting = w .setting; body = (cont-body (w .setting) (w .row) (w .regular) (c .before .before .before .before .wide .result) (c .before .before .before .before .wide .ensures .0 ∙ c .before .before .before .before .before .slot-at .ensures ∙ w .slot) (c .before .if1 .left) (c .if2 .taken)) })
 
 add-wide : tie.Need-add-wide
 add-wide c = let w = c .before .before .before .before .before .before .before .before .before .before .before .pre .0 in
-    let b = (cont-body (w .setting) (c .before .before .before .before .before .before .before .before .before .before .before .args .table .now) (c .before .before .before .before .before .before .before .before .before .before .before .args .r) (w .row) (w .regular) (c .before .before .before .before .before .wide .result) (c .before .before .before .before .before .wide .ensures .0 ∙ c .before .before .before .before .before .before .slot-at .ensures ∙ w .slot) (c .before .before .if1 .left) (c .before .if2 .taken)) in
+    let b = (cont-body (w .setting) (w .row) (w .regular) (c .before .before .before .before .before .wide .result) (c .before .before .before .before .before .wide .ensures .0 ∙ c .before .before .before .before .before .before .slot-at .ensures ∙ w .slot) (c .before .before .if1 .left) (c .before .if2 .taken)) in
     let k : c .clause-of .result ≡ b .k = c .clause-of .ensures (record { p = w .p; setting = w .setting; body = b }) in
     let f = clause-few (w .setting) _ b in
     omega (arith, f .0, f .1)
 
 mul-wide : tie.Need-mul-wide
 mul-wide c = let w = c .before .before .before .before .before .before .before .before .before .before .before .pre .0 in
-    let b = (cont-body (w .setting) (c .before .before .before .before .before .before .before .before .before .before .before .args .table .now) (c .before .before .before .before .before .before .before .before .before .before .before .args .r) (w .row) (w .regular) (c .before .before .before .before .before .wide .result) (c .before .before .before .before .before .wide .ensures .0 ∙ c .before .before .before .before .before .before .slot-at .ensures ∙ w .slot) (c .before .before .if1 .left) (c .before .if2 .taken)) in
+    let b = (cont-body (w .setting) (w .row) (w .regular) (c .before .before .before .before .before .wide .result) (c .before .before .before .before .before .wide .ensures .0 ∙ c .before .before .before .before .before .before .slot-at .ensures ∙ w .slot) (c .before .before .if1 .left) (c .before .if2 .taken)) in
     let k : c .clause-of .result ≡ b .k = c .clause-of .ensures (record { p = w .p; setting = w .setting; body = b }) in
     let f = clause-few (w .setting) _ b in
     omega (arith, f .0, f .1)
 
 shared-slice-read-wide : tie.Need-shared-slice-read-wide
 shared-slice-read-wide c = let w = c .before .before .before .before .before .before .before .before .before .before .before .before .pre .0 in
-    let b = (cont-body (w .setting) (c .before .before .before .before .before .before .before .before .before .before .before .before .args .table .now) (c .before .before .before .before .before .before .before .before .before .before .before .before .args .r) (w .row) (w .regular) (c .before .before .before .before .before .before .wide .result) (c .before .before .before .before .before .before .wide .ensures .0 ∙ c .before .before .before .before .before .before .before .slot-at .ensures ∙ w .slot) (c .before .before .before .if1 .left) (c .before .before .if2 .taken)) in
+    let b = (cont-body (w .setting) (w .row) (w .regular) (c .before .before .before .before .before .before .wide .result) (c .before .before .before .before .before .before .wide .ensures .0 ∙ c .before .before .before .before .before .before .before .slot-at .ensures ∙ w .slot) (c .before .before .before .if1 .left) (c .before .before .if2 .taken)) in
     let k : c .before .clause-of .result ≡ b .k = c .before .clause-of .ensures (record { p = w .p; setting = w .setting; body = b }) in
     let f = clause-few (w .setting) _ b in
     omega (arith, f .0, f .1)
@@ -52,21 +53,21 @@ wide-requires-2 c κs = search needs
 
 sub-place : tie.Need-sub-place
 sub-place c = let w = c .before .before .before .before .before .before .before .before .before .before .before .before .before .pre .0 in
-    let b = (cont-body (w .setting) (c .before .before .before .before .before .before .before .before .before .before .before .before .before .args .table .now) (c .before .before .before .before .before .before .before .before .before .before .before .before .before .args .r) (w .row) (w .regular) (c .before .before .before .before .before .before .before .wide .result) (c .before .before .before .before .before .before .before .wide .ensures .0 ∙ c .before .before .before .before .before .before .before .before .slot-at .ensures ∙ w .slot) (c .before .before .before .before .if1 .left) (c .before .before .before .if2 .taken)) in
+    let b = (cont-body (w .setting) (w .row) (w .regular) (c .before .before .before .before .before .before .before .wide .result) (c .before .before .before .before .before .before .before .wide .ensures .0 ∙ c .before .before .before .before .before .before .before .before .slot-at .ensures ∙ w .slot) (c .before .before .before .before .if1 .left) (c .before .before .before .if2 .taken)) in
     let k : c .before .before .clause-of .result ≡ b .k = c .before .before .clause-of .ensures (record { p = w .p; setting = w .setting; body = b }) in
     let f : getD (c .before .before .before .before .before .before .before .before .before .before .before .before .before .args .dir .now) (136 + c .before .before .clause-of .result) 0 ≤ c .before .before .before .before .before .before .before .wide .result - 2048 = rw k (place-few (w .setting) _ b .1) in
     rw (c .wide2 .ensures .0) f
 
 add-narrow : tie.Need-add-narrow
 add-narrow c = let w = c .before .before .before .before .before .before .before .before .before .before .before .before .before .before .pre .0 in
-    let b = (cont-body (w .setting) (c .before .before .before .before .before .before .before .before .before .before .before .before .before .before .args .table .now) (c .before .before .before .before .before .before .before .before .before .before .before .before .before .before .args .r) (w .row) (w .regular) (c .before .before .before .before .before .before .before .before .wide .result) (c .before .before .before .before .before .before .before .before .wide .ensures .0 ∙ c .before .before .before .before .before .before .before .before .before .slot-at .ensures ∙ w .slot) (c .before .before .before .before .before .if1 .left) (c .before .before .before .before .if2 .taken)) in
+    let b = (cont-body (w .setting) (w .row) (w .regular) (c .before .before .before .before .before .before .before .before .wide .result) (c .before .before .before .before .before .before .before .before .wide .ensures .0 ∙ c .before .before .before .before .before .before .before .before .before .slot-at .ensures ∙ w .slot) (c .before .before .before .before .before .if1 .left) (c .before .before .before .before .if2 .taken)) in
     let k : c .before .before .before .clause-of .result ≡ b .k = c .before .before .before .clause-of .ensures (record { p = w .p; setting = w .setting; body = b }) in
     let f = clause-few (w .setting) _ b in
     omega (arith, f .0, f .1)
 
 narrow-requires-2 : tie.Need-narrow-requires-2
 narrow-requires-2 c κs = let w = c .before .before .before .before .before .before .before .before .before .before .before .before .before .before .pre .0 in
-    let b = (cont-body (w .setting) (c .before .before .before .before .before .before .before .before .before .before .before .before .before .before .args .table .now) (c .before .before .before .before .before .before .before .before .before .before .before .before .before .before .args .r) (w .row) (w .regular) (c .before .before .before .before .before .before .before .before .wide .result) (c .before .before .before .before .before .before .before .before .wide .ensures .0 ∙ c .before .before .before .before .before .before .before .before .before .slot-at .ensures ∙ w .slot) (c .before .before .before .before .before .if1 .left) (c .before .before .before .before .if2 .taken)) in
+    let b = (cont-body (w .setting) (w .row) (w .regular) (c .before .before .before .before .before .before .before .before .wide .result) (c .before .before .before .before .before .before .before .before .wide .ensures .0 ∙ c .before .before .before .before .before .before .before .before .before .slot-at .ensures ∙ w .slot) (c .before .before .before .before .before .if1 .left) (c .before .before .before .before .if2 .taken)) in
     let k : c .before .before .before .clause-of .result ≡ b .k = c .before .before .before .clause-of .ensures (record { p = w .p; setting = w .setting; body = b }) in
     let f = clause-few (w .setting) _ b in
     omega (arith, f .0, f .1)

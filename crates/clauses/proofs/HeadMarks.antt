@@ -1,0 +1,181 @@
+-- Marks on a clause's head: where the clause stands in the directory, which marks the set has, and what they end in.
+use Prim.Native.Nat.{ℕ, _+_, _/_, _%_, _^_, _≤_, _<_}
+use native.Mathlib.Omega.{arith}
+use native.Mathlib.Decide.{decLt}
+use mathlib.Core.Path.{_≡_, sym, ap, subst}
+use mathlib.Core.Logic.{_⊎_, inl, inr, ⊎-elim, _↔_}
+use mathlib.Core.List.{List, List·Memᴰ·not-nil}
+use lib.ListN.{length, getD, replicate, List·getD-eq-default}
+use Rattle.terms.specs.Term.{Term, Subst, app, sub, All, Occ}
+use Rattle.terms.specs.Cells.{Atom}
+use Rattle.terms.proofs.Masks.{has-none, marks-for, marks-below}
+use Rattle.terms.proofs.Substs.{occ-all, all-occ}
+use Rattle.terms.proofs.Variables.{occ-decided}
+use Rattle.terms.proofs.Binding.{atom-variables}
+use Rattle.marks.specs.Pass.{Known, Pass}
+use Rattle.marks.specs.Modes.{modes, Kept}
+use Rattle.marks.proofs.Modes.{keptOf, keptOf-kept}
+use Rattle.program.specs.Program.{Clause, Program}
+use Rattle.program.proofs.ShapeLaws.{nth-same}
+use Rattle.program.proofs.Nths.{nth-below}
+use Rattle.directory.specs.Directory.{predicateOf}
+use Rattle.rows.specs.Rows.{masks, slotAt, keysOf}
+use Rattle.rows.specs.MaskSet.{setWords, InSet}
+use Rattle.rows.proofs.MaskSets.{none-in-zeros}
+use Rattle.table.specs.Rules.{Row, call, Reached, first, next}
+use Rattle.table.specs.Steps.{opens, makes, EndsIn, ends-in}
+use Rattle.table.specs.NewRows.{New, NewReached, new-on-head}
+use Rattle.table.specs.RoundKeys.{Keyed}
+use Rattle.table.proofs.NewRows.{new-reached}
+use Rattle.steps.specs.Steps.{RowsIn}
+use Rattle.steps.specs.Situation.{HeadAsked}
+use Rattle.steps.specs.Since.{SinceIn}
+use Rattle.steps.specs.Heads.{ReachedSince, HeadMark, Marked, Solved, solved, SolveAsked}
+use Rattle.clauses.specs.Clauses.{EndsSince}
+use Rattle.steps.proofs.ShapeAtoms.{shape-is-atom}
+use Rattle.steps.proofs.Meetings.{setting-within}
+use Rattle.steps.proofs.Bodies.{head-is-atom}
+use Rattle.steps.proofs.SlotRows.{in-slot}
+use Rattle.solving.proofs.SolveLaws.{late-row}
+use Rattle.clauses.proofs.ClearedMarks.{cleared-empty}
+
+-- marks of other variables than the head's pass nothing on
+module _ (H S : Term) (N q C R : ℕ) (k : Kept (λ v. Occ v H) N q) where
+  known-kept : (α : Subst) (z : ℕ) → Known H N α z ↔ Known H q α z
+  known-kept α z = (λ (x, o, h, d). (x, o, k x .1 (o, h), d), λ (x, o, h, d). (x, o, k x .0 h .1, d))
+
+  pub kept-passes : Pass H N S C R → Pass H q S C R
+  kept-passes u =
+      record {
+        α = u .α;
+        β = u .β;
+        unifier = u .unifier;
+        result = marks-for R (λ y. (⊎-elim inl (λ (o, h). inr (o, wider y h)), ⊎-elim inl (λ (o, h). inr (o, narrower y h)))) (u .result);
+      }
+    where
+      wider : (y : ℕ) → All (Known H N (u .α)) (u .β y) → All (Known H q (u .α)) (u .β y)
+      wider y h = occ-all (Known H q (u .α)) (u .β y) (λ z o. known-kept (u .α) z .0 (all-occ (Known H N (u .α)) (u .β y) h z o))
+
+      narrower : (y : ℕ) → All (Known H q (u .α)) (u .β y) → All (Known H N (u .α)) (u .β y)
+      narrower y h = occ-all (Known H N (u .α)) (u .β y) (λ z o. known-kept (u .α) z .1 (all-occ (Known H q (u .α)) (u .β y) h z o))
+
+-- atoms that unify have one predicate
+pub one-predicate : {P F P′ F′ : List ℕ} {A B : Term} (α β : Subst) → Atom P F A → Atom P′ F′ B → sub A α ≡ sub B β → predicateOf B ≡ predicateOf A
+one-predicate {A = A} {B = B} α β a b e =
+    let f : sub (app (a .predicate) (a .arguments)) α ≡ sub (app (b .predicate) (b .arguments)) β = rw (a .is, b .is) at e in
+    let g : a .predicate ≡ b .predicate = ap predicateOf f in
+    rw (a .is, b .is) (sym g)
+
+-- with nothing before, every row is new
+pub all-new : (p : Program) (T₀ T : Row ℕ → Type 0) → ((row : Row ℕ) → T₀ row → ⊥) → {k i N : ℕ} → Reached modes p T k i N → NewReached modes p T₀ T k i N
+all-new p T₀ T none (first hc hs row passed) = (_, _, (row, none _), opens hc hs passed)
+all-new p T₀ T none (next hc hA hs row row′ passed joined) = (_, _, _, row, row′, inl (none _), makes hc hA hs passed joined)
+
+-- marks that an empty set has gained
+pub marked-empty : (P : ℕ → Type 0) (found₀ found : List ℕ) → found₀ ≡ replicate setWords 0 → Marked P found₀ found → Marked P (replicate setWords 0) found
+marked-empty P found₀ found e m = subst (λ (f : List ℕ). Marked P f found) e m
+
+module _ (words dir table heads : List ℕ) (since rows k : ℕ) (w : HeadAsked words dir table heads since rows k) where
+  abbrev p : Program
+  p = w .situation .p
+
+  abbrev c : Clause
+  c = w .clause .c
+
+  abbrev T : Row ℕ → Type 0
+  T = RowsIn p (keysOf table rows)
+
+  head-atom : Atom (p .predicates) (p .functions) (c .head)
+  head-atom = head-is-atom (w .situation .setting) (w .clause .nth-clause)
+
+  -- marks since any row are marks since the first
+  since-first : (since′ i N : ℕ) → ReachedSince p table since′ rows k i N → ReachedSince p table 0 rows k i N
+  since-first since′ i N h =
+      all-new p (RowsIn p (keysOf table 0)) T (λ row o. List·Memᴰ·not-nil (o .1)) (new-reached modes p (RowsIn p (keysOf table since′)) T k i N h)
+
+  -- marks that result are a head mark, kept to the head's variables
+  head-mark : (since′ i N : ℕ) → ReachedSince p table since′ rows k i N → (q : ℕ) × (q < masks) × Kept (λ v. Occ v (c .head)) N q × HeadMark p table since′ rows k i q
+  head-mark since′ i N reached =
+      let q = keptOf (λ v. Occ v (c .head)) (λ v. occ-decided v (c .head)) N in
+      let kept = keptOf-kept (λ v. Occ v (c .head)) (λ v. occ-decided v (c .head)) N in (
+        q,
+        marks-below 16 q (λ v h. atom-variables head-atom v (kept v .0 h .0)),
+        kept,
+        record { c = c; nth-clause = w .clause .nth-clause; N = N; reached = reached; kept = kept },
+      )
+
+  module _ (since′ : ℕ) (found : List ℕ) (marked : Marked (HeadMark p table since′ rows k (length (c .body))) (replicate setWords 0) found) where
+    -- what the set has is below the number of masks, and a head mark
+    pub found-below : (q : ℕ) → InSet found q → q < masks
+    found-below q h = at (decLt q masks)
+      where
+        at : Dec (q < masks) → q < masks
+        at (yes l) = l
+        at (no n) = absurd (has-none (q % 16) (rw (List·getD-eq-default found 0 {n = q / 16} (omega (arith, marked .size))) at h))
+
+    found-mark : (q : ℕ) → InSet found q → HeadMark p table since′ rows k (length (c .body)) q
+    found-mark q h = ⊎-elim (λ z. absurd (none-in-zeros setWords q z)) (λ m. m) (marked .members q (found-below q h) .0 h)
+
+    pub solve-asked : (from : ℕ) → from ≤ rows → SolveAsked words dir table heads found since from rows k
+    solve-asked from l =
+        record {
+          situation = w .situation;
+          from-within = l;
+          clause = w .clause;
+          set-size = marked .size;
+          result = λ q l h.
+              let m = found-mark q h in
+              record { c = m .c; nth-clause = m .nth-clause; N = m .N; reached = since-first since′ (length (c .body)) (m .N) (m .reached); kept = m .kept };
+        }
+
+    -- its masks stand in the first words
+    pub found-words : (vars : ℕ) → ((v : ℕ) → Occ v (c .head) → v < vars) → (q : ℕ) → InSet found q → q / 16 < (2 ^ vars + 15) / 16
+    found-words vars few q h =
+        let m = found-mark q h in
+        let l : q < 2 ^ vars = marks-below vars q (λ v b. few v (subst (λ (d : Clause). Occ v (d .head)) (nth-same (m .nth-clause) (w .clause .nth-clause)) (m .kept v .0 b .0))) in
+        omega arith
+
+    -- no marks, and the set is still empty
+    pub none-found : ((v : ℕ) → getD found v 0 < masks) → ((q : ℕ) → HeadMark p table since′ rows k (length (c .body)) q → ⊥) → found ≡ replicate setWords 0
+    none-found small none = cleared-empty found 0 (marked .size) (omega arith) small (λ q h. absurd (none q (found-mark q h)))
+
+    -- what the clause ends in by marks in the set is solved
+    pub ends-solved : (from key : ℕ) → EndsSince p (keysOf table since′) (keysOf table from) (keysOf table rows) k key → Keyed p (Solved p table from rows k found) key
+    ends-solved from key (_, (N, new-on-head {c = d} hc reached, s, C, called, ends-in {S = S} {R = R} hc′ hs passed), e) =
+        let same = nth-same hc (w .clause .nth-clause) in
+        let (q, l, kept, m) = head-mark since′ (length (c .body)) N (subst (λ (d : Clause). ReachedSince p table since′ rows k (length (d .body)) N) same reached) in (
+          _,
+          solved (w .clause .nth-clause) l (marked .members q l .1 (inr m)) hs called
+              (kept-passes (c .head) S N q C R kept (subst (λ (d : Clause). Pass (d .head) N S C R) (nth-same hc′ (w .clause .nth-clause)) passed)),
+          e,
+        )
+
+  -- without marks the clause ends in nothing
+  pub nothing-ends : (since′ from : ℕ) → ((q : ℕ) → HeadMark p table since′ rows k (length (c .body)) q → ⊥) → (key : ℕ)
+      → EndsSince p (keysOf table since′) (keysOf table from) (keysOf table rows) k key → ⊥
+  nothing-ends since′ from none key (row, (N, new-on-head {c = d} hc reached, s, C, called, ends), e) =
+      let (q, l, kept, m) =
+      head-mark since′ (length (c .body)) N
+      (subst (λ (d : Clause). ReachedSince p table since′ rows k (length (d .body)) N) (nth-same hc (w .clause .nth-clause)) reached) in
+      none q m
+
+  -- a new call row whose shape unifies with the head is one of a shape of its predicate
+  pub late-found : (N s C : ℕ) (row : Row ℕ) → New modes p (RowsIn p (keysOf table since)) T (call s C) → EndsIn modes p k N s C row
+      → SinceIn p heads (predicateOf (c .head)) 0 since
+  late-found N s C _ called (ends-in {S = S} {R = R} hc hs passed) =
+      let chains = w .situation .chains in
+      let (r, l, e, m) = in-slot p table heads since rows chains rows (call s C) (omega arith) (called .0) in
+      let late : since ≤ r = late-row p table since rows r s C e m called in
+      let below : s < length heads = omega (arith, nth-below hs, w .situation .setting .directory .shape-count, w .situation .setting .directory .shapes-most, chains .all-heads) in
+      let z : 0 + s ≡ s = omega arith in
+      let u : Pass (c .head) N S C R = subst (λ (d : Clause). Pass (d .head) N S C R) (nth-same hc (w .clause .nth-clause)) passed in (
+        s,
+        S,
+        hs,
+        one-predicate (u .α) (u .β) head-atom (shape-is-atom p (setting-within (w .situation .setting)) hs) (u .unifier .unifies),
+        rw z (newer r e l late below (decLt since (getD heads s 0))),
+      )
+    where
+      newer : (r : ℕ) → slotAt table r ≡ s → r < rows → since ≤ r → s < length heads → Dec (since < getD heads s 0) → since < getD heads s 0
+      newer r e l late below (yes b) = b
+      newer r e l late below (no b) = absurd (w .situation .chains .by-slot .from-heads s below .last r (omega arith) l e)

@@ -1,0 +1,51 @@
+-- A clause in a round: its middle places, what it goes on to and ends in, and the scratch that it is lent.
+use Prim.Native.Nat.{ℕ, suc, _+_}
+use mathlib.Core.Path.{_≡_}
+use mathlib.Core.Logic.{_⊎_}
+use mathlib.Core.List.{List}
+use lib.ListN.{length, replicate}
+use Rattle.marks.specs.Modes.{modes}
+use Rattle.program.specs.Program.{Program}
+use Rattle.rows.specs.MaskSet.{setWords}
+use Rattle.table.specs.Rules.{call}
+use Rattle.table.specs.Steps.{EndsIn}
+use Rattle.table.specs.Keys.{bodyIndex}
+use Rattle.table.specs.Added.{Below}
+use Rattle.table.specs.NewRows.{New, NewOnHead, NewGoesOn, NewEnds, LateCalls}
+use Rattle.table.specs.RoundKeys.{Keyed}
+use Rattle.steps.specs.Steps.{RowsIn}
+use Rattle.steps.specs.Situation.{Situation, ClauseOf}
+
+-- the body atoms first..last are those of clause k but its last
+pub record MiddlesAsked (words dir table heads : List ℕ) (since rows first last : ℕ) : Type 0 where
+  pub situation : Situation words dir table heads since rows
+  pub k : ℕ
+  pub clause : ClauseOf (situation .p) k
+  pub middles : ℕ
+  pub all-but-one : length (clause .c .body) ≡ suc middles
+  pub first-is : first ≡ bodyIndex (situation .p) k 0
+  pub last-is : last ≡ first + middles
+
+-- what marks go on to past the first i places of clause k: ks₀ are the keys of the round before, ks those so far
+abbrev pub PastPlaces : Program → List ℕ → List ℕ → ℕ → ℕ → ℕ → Type 0
+PastPlaces p ks₀ ks k i = Below (λ i. Keyed p (NewGoesOn modes p (RowsIn p ks₀) (RowsIn p ks) k (suc i))) i
+
+-- the rows for the first i body atoms of clause k
+abbrev pub Places : Program → List ℕ → List ℕ → ℕ → ℕ → ℕ → Type 0
+Places p ks₀ ks k i = Below (λ i. Keyed p (NewGoesOn modes p (RowsIn p ks₀) (RowsIn p ks) k i)) i
+
+-- what clause k ends in
+abbrev pub AtEnd : Program → List ℕ → List ℕ → ℕ → ℕ → Type 0
+AtEnd p ks₀ ks k key = Keyed p (NewEnds modes p (RowsIn p ks₀) (RowsIn p ks) k) key ⊎ Keyed p (LateCalls modes p (RowsIn p ks₀) (RowsIn p ks) k) key
+
+-- what clause k ends in by marks on its head that result with a row that is not in ks₀, and by call rows that are not in `from`
+abbrev pub EndsSince : Program → List ℕ → List ℕ → List ℕ → ℕ → ℕ → Type 0
+EndsSince p ks₀ from ks k =
+    Keyed p (λ row.
+    (N : ℕ) × NewOnHead modes p (RowsIn p ks₀) (RowsIn p ks) k N × (s : ℕ) × (C : ℕ) × New modes p (RowsIn p from) (RowsIn p ks) (call s C) × EndsIn modes p k N s C row)
+
+-- the scratch of a round: nothing seen, nothing found, and a list for the answers
+pub record Scratch (seen answers found : List ℕ) : Type 0 where
+  pub none-seen : seen ≡ replicate setWords 0
+  pub all-answers : length answers ≡ 4096
+  pub none-found : found ≡ replicate setWords 0

@@ -1,0 +1,31 @@
+-- `note` meets its contract: the bit is put in, and no other is touched. Assumes nothing.
+use borrow.Author.Needs.{needs}
+use Rattle.rounds.proofs.ActiveClauses.{noted-one}
+use Rattle.rounds.proofs.rounds.note.Statement.{statement}
+use Rattle.rounds.proofs.rounds.note.Tie as tie
+
+mul-set : tie.Need-mul-set
+mul-set c = search needs
+
+slice-read-set : tie.Need-slice-read-set
+slice-read-set c = search needs
+
+shl-set : tie.Need-shl-set
+shl-set c = search needs
+
+mul-set-2 : tie.Need-mul-set-2
+mul-set-2 c = search needs
+
+slice-write-set : tie.Need-slice-write-set
+slice-write-set c = search needs
+
+same-length : tie.Need-same-length
+same-length c = search needs
+
+returns : tie.Need-returns
+returns c = noted-one (c .before .args .set .now) (c .before .args .q) (c .before .args .k) (c .before .pre .0) (c .before .pre .1)
+
+pub note-spec : {M : Type 1} → statement M
+note-spec =
+    tie.close
+    (tie.spec mul-set slice-read-set shl-set mul-set-2 slice-write-set same-length returns)
