@@ -12,9 +12,9 @@ use Rattle.program.proofs.ShapeLaws.{nth-same}
 use Rattle.program.proofs.ProgramWords.{sound-within}
 use Rattle.program.proofs.Nths.{nth-below, nth-left, nth-right}
 use Rattle.rows.specs.Rows.{rowSize, roundAt, slotAt, maskAt, keyAt}
-use Rattle.rows.specs.Ordered.{orderAt, Sorted}
+use Rattle.order.specs.Ordered.{orderAt, Sorted}
 use Rattle.rows.proofs.Keys.{key-slot, key-mask, key-listed, listed-key}
-use Rattle.rows.proofs.Sorting.{key-before, reordered-keys, reordered-distinct, ascending-strictly}
+use Rattle.order.proofs.Sorting.{key-before, reordered-keys, reordered-distinct, ascending-strictly}
 use Rattle.table.specs.Rules.{Row}
 use Rattle.table.specs.Rounds.{At, First}
 use Rattle.table.specs.Table.{Entry, entryWords, Ascending, Before, TableOf, mask}

@@ -1,12 +1,12 @@
 // The analysis of an encoded program: its table, or why there is none.
 use crate::unpack::unpack;
 use directory::directory;
+use order::sort::sort;
 use program::reply::ACCEPTED;
 use program::reply::NO_ROOM;
 use program::reply::Reply;
 use program::scan::scan;
 use rounds::rounds::rounds;
-use rows::order::sort;
 use rows::row::MAX_ROWS;
 use rows::row::ROW_SIZE;
 use rows::zeros::zero;

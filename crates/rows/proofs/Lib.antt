@@ -6,6 +6,3 @@ pub mod Adding
 pub mod AddedRows
 pub mod Linking
 pub mod MaskSets
-pub mod Rotations
-pub mod Sifting
-pub mod Sorting

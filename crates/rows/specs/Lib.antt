@@ -3,5 +3,4 @@ pub mod Rows
 pub mod Chains
 pub mod Store
 pub mod Linked
-pub mod Ordered
 pub mod MaskSet
