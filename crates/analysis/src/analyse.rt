@@ -1,6 +1,5 @@
 // The analysis of an encoded program: its table, or why there is none.
 use crate::unpack::unpack;
-use directory::directory;
 use order::sort::sort;
 use program::reply::ACCEPTED;
 use program::reply::NO_ROOM;
@@ -10,6 +9,7 @@ use rounds::rounds::rounds;
 use rows::row::MAX_ROWS;
 use rows::row::ROW_SIZE;
 use rows::zeros::zero;
+use shaping::directory;
 ghost use mathlib.Core.Path.{_≡_};
 ghost use lib.ListN.{length};
 ghost use Rattle.program.specs.Program.{Program};

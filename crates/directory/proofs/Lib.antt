@@ -14,13 +14,5 @@ pub mod MaskLaws
 pub mod BodyNumbers
 pub mod ListWalk
 pub mod Parts
-pub mod ShapeSearch
-pub mod Links
-pub mod ShapeKept
-pub mod ShapeAdded
 pub mod ShapeAtoms
-pub mod ShapeNumber
-pub mod ShapeNames
-pub mod ShapesWalk
-pub mod Made
 pub mod DirectoryLaws

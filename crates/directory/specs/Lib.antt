@@ -6,5 +6,3 @@ pub mod Numbers
 pub mod From
 pub mod Walked
 pub mod Lists
-pub mod Shaped
-pub mod Named

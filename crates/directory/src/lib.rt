@@ -1,29 +1,7 @@
-// The directory of an accepted program: where everything stands.
+// The directory of an accepted program: where everything stands. Its parts but the shapes are filled here.
 mod goal;
 pub mod layout;
-mod lists;
-mod naming;
-mod numbers;
+pub mod lists;
+pub mod numbers;
 mod places;
-mod placing;
-mod shapes;
-
-use lists::lists;
-use naming::shapes;
-use placing::places;
-ghost use mathlib.Core.Path.{_≡_};
-ghost use lib.ListN.{length};
-ghost use Rattle.program.specs.Program.{Program};
-ghost use Rattle.program.specs.Faults.{faults, sound};
-ghost use Rattle.directory.specs.Layout.{dirWords};
-ghost use Rattle.directory.specs.Directory.{Directory};
-
-// Makes the directory. Called only once the scan has accepted the words.
-pub fn directory(words: &[u16], dir: &mut [u16])
-    requires { ⌜ (length (now dir) ≡ dirWords) × ((p : Program) × (faults (now words) ≡ sound p)) ⌝ }
-    ensures { λ _. ⌜ ((p : Program) → faults (now (words .entry)) ≡ sound p → Directory (now (words .entry)) p (now (dir .exit))) ⌝ }
-{
-    places(words, dir);
-    lists(words, dir);
-    shapes(words, dir);
-}
+pub mod placing;

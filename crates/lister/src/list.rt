@@ -1,12 +1,12 @@
 // The lister: from a program with its names, the table in lent words and its listing in lent bytes.
 use crate::listing::listing;
 use analysis::analyse::analyse;
-use directory::directory;
 use program::reply::ACCEPTED;
 use program::reply::NO_ROOM;
 use program::reply::Reply;
 use program::scan::scan;
 use rows::zeros::zero;
+use shaping::directory;
 use terms::walk::wide;
 use text::put::clear;
 use writer::names::names_reply;
