@@ -58,6 +58,21 @@ module _ {words dir : List ℕ} {p : Program} (s : Setting words dir p) where
             let h′ : j < getD dir (clauseFirst + (k + 1)) 0 = rw e at h in
             absurd (omega (arith, body-first))
 
+    -- a clause that begins before it, or at it, is not behind its clause
+    pub clause-begun : (k : ℕ) → k ≤ length (p .clauses) → getD dir (clauseFirst + k) 0 ≤ j → k ≤ b .k
+    clause-begun k l h = at (decLt (b .k) k)
+      where
+        at : Dec (b .k < k) → k ≤ b .k
+        at (no d) = omega arith
+        at (yes d) =
+            let m : b .k + 1 + (k - (b .k + 1)) ≡ k = omega arith in
+            let f = firsts-rise (b .k + 1) (k - (b .k + 1)) (omega arith) in
+            let g : getD dir (clauseFirst + (b .k + 1)) 0 ≤ getD dir (clauseFirst + k) 0 = rw m at f in
+            let e : clauseFirst + (b .k + 1) ≡ clauseFirst + suc (b .k) = omega arith in
+            let g′ : getD dir (clauseFirst + suc (b .k)) 0 ≤ getD dir (clauseFirst + k) 0 = rw e at g in
+            let n = s .directory .clause (b .nth-clause) .first-next in
+            absurd (omega (arith, nth-below (b .nth-atom), body-first))
+
     pub clause-few : (b .k < 64) × (length dir ≡ dirWords)
     clause-few = (omega (arith, nth-below (b .nth-clause), setting-within s .clauses-most), s .directory .size)
 

@@ -1,17 +1,17 @@
 -- The index of the clauses and the rows that are new, one after the other: what is noted stays, and one more is noted.
-use Prim.Native.Nat.{ℕ, _+_, _≤_, _<_}
+use Prim.Native.Nat.{ℕ, suc, _+_, _-_, _≤_, _<_}
 use native.Mathlib.Omega.{arith}
 use native.Mathlib.Decide.{decLt, ℕ-discrete}
-use mathlib.Core.Path.{_≡_, refl, sym, subst, _∙_}
+use mathlib.Core.Path.{_≡_, refl, sym, ap, subst, _∙_}
 use mathlib.Core.Logic.{inl, inr}
 use mathlib.Core.List.{List}
-use lib.ListN.{getD}
+use lib.ListN.{length, getD}
 use lib.Bits.{bitOr}
 use Rattle.terms.specs.Mask.{Has}
 use Rattle.terms.proofs.Masks.{has-or}
 use Rattle.program.specs.Program.{Nth, Clause, Program}
 use Rattle.program.proofs.Nths.{nth-below, below-nth}
-use Rattle.directory.specs.Layout.{clauseHead, clauseCount, bodyStart, bodyCount}
+use Rattle.directory.specs.Layout.{clauseHead, clauseFirst, clauseCount, bodyStart, bodyCount}
 use Rattle.directory.specs.Directory.{predicateOf}
 use Rattle.rows.specs.Rows.{slotAt, maskAt}
 use Rattle.table.specs.Rules.{Row}
@@ -21,6 +21,7 @@ use Rattle.steps.specs.Situation.{Setting, Situation, BodyOf}
 use Rattle.steps.proofs.Bodies.{first-body, body-there}
 use Rattle.rounds.specs.Standing.{Stands}
 use Rattle.rounds.specs.Active.{Concerns, Noted, HeadsNoted, BodiesNoted}
+use Rattle.rounds.proofs.BodyClauses.{clause-found, clause-begun}
 use Rattle.rounds.proofs.ActiveClauses.{head-first, body-first}
 
 -- the clauses below n are noted for their heads, and the body atoms below n
@@ -29,6 +30,10 @@ HeadsBelow p set n = (k : ℕ) (c : Clause) → k < n → Nth (p .clauses) k c �
 
 abbrev pub BodiesBelow : Program → List ℕ → ℕ → Type 0
 BodiesBelow p set n = (j : ℕ) (b : BodyOf p j) → j < n → Has (getD set (predicateOf (b .A)) 0) (b .k)
+
+-- past the last body atom of clause k the next clause begins
+pub next-begins : (dir : List ℕ) (k j end : ℕ) → end ≡ getD dir (clauseFirst + k + 1) 0 → j ≤ end → end ≤ j → j ≡ getD dir (clauseFirst + (k + 1)) 0
+next-begins dir k j end is below past = let e : clauseFirst + k + 1 ≡ clauseFirst + (k + 1) = omega arith in rw (← e) (omega arith)
 
 module _ {words dir : List ℕ} {p : Program} (s : Setting words dir p) where
   pub clause-at : (clauses k : ℕ) → clauses ≡ getD dir clauseCount 0 → k < clauses → (c : Clause) × Nth (p .clauses) k c
@@ -46,10 +51,26 @@ module _ {words dir : List ℕ} {p : Program} (s : Setting words dir p) where
   pub heads-all : (set : List ℕ) (clauses k : ℕ) → clauses ≡ getD dir clauseCount 0 → clauses ≤ k → HeadsBelow p set k → HeadsNoted p set
   heads-all set clauses k e l below k′ c h = below k′ c (omega (arith, nth-below h, s .directory .clause-count)) h
 
-  pub body-of : (bodies j : ℕ) → bodies ≡ getD dir bodyCount 0 → j < bodies → BodyOf p j
-  body-of bodies j e l =
-      let (k, i, c, A, hc, hA, f) = s .directory .each-body j (omega arith) in
-      record { k = k; i = i; c = c; A = A; nth-clause = hc; nth-atom = hA; is = omega (arith, first-body s k (let b = nth-below hc in omega arith)) }
+  -- the body atoms from where clause k begins to where the next does are its own
+  module _ (clauses k j : ℕ) (many : clauses ≡ getD dir clauseCount 0) (l : k < clauses) (begun : getD dir (clauseFirst + k) 0 ≤ j) (within : j < getD dir (clauseFirst + k + 1) 0) where
+    pub body-here : BodyOf p j
+    body-here =
+        let (c, hc) = clause-at clauses k many l in
+        let e : clauseFirst + k + 1 ≡ clauseFirst + suc k = omega arith in
+        let w : j < getD dir (clauseFirst + suc k) 0 = rw e at within in
+        let n = s .directory .clause hc .first-next in
+        let (A, hA) = below-nth (c .body) (j - getD dir (clauseFirst + k) 0) (omega arith) in
+        record { k = k; i = j - getD dir (clauseFirst + k) 0; c = c; A = A; nth-clause = hc; nth-atom = hA; is = omega (arith, first-body s k (let b = nth-below hc in omega arith)) }
+
+    pub body-own : (b : BodyOf p j) → k ≡ b .k
+    body-own b = clause-found s j b k (clause-begun s j b k (let c = s .directory .clause-count in omega arith) begun) within
+
+  -- the next clause begins behind it
+  pub clause-spans : (clauses k : ℕ) → clauses ≡ getD dir clauseCount 0 → k < clauses → getD dir (clauseFirst + k) 0 ≤ getD dir (clauseFirst + k + 1) 0
+  clause-spans clauses k many l =
+      let n = s .directory .clause (clause-at clauses k many l .1) .first-next in
+      let e : clauseFirst + k + 1 ≡ clauseFirst + suc k = omega arith in
+      rw e (omega arith)
 
   pub bodies-on : (set set′ : List ℕ) (q k j : ℕ) → Noted set set′ q k → q ≡ getD words (getD dir (bodyStart + j) 0) 0 → ((b : BodyOf p j) → k ≡ b .k) → BodiesBelow p set j
       → BodiesBelow p set′ (j + 1)
@@ -65,8 +86,10 @@ module _ {words dir : List ℕ} {p : Program} (s : Setting words dir p) where
       at (yes e) = subst (λ (x : ℕ). (b : BodyOf p x) → Has (getD set′ (predicateOf (b .A)) 0) (b .k)) (sym e) this b
       at (no o) = one .kept (predicateOf (b .A)) (b .k) (before j′ b (omega arith))
 
-  pub bodies-all : (set : List ℕ) (bodies j : ℕ) → bodies ≡ getD dir bodyCount 0 → bodies ≤ j → BodiesBelow p set j → BodiesNoted p set
-  bodies-all set bodies j e l below k i c A hc hA =
+  pub bodies-all : (set : List ℕ) (clauses k j : ℕ) → clauses ≡ getD dir clauseCount 0 → k ≤ clauses → clauses ≤ k → j ≡ getD dir (clauseFirst + k) 0 → BodiesBelow p set j → BodiesNoted p set
+  bodies-all set clauses k′ j e a b last below k i c A hc hA =
+      let f : k′ ≡ length (p .clauses) = omega (arith, s .directory .clause-count) in
+      let g : j ≡ getD dir bodyCount 0 = last ∙ ap (λ (x : ℕ). getD dir (clauseFirst + x) 0) f ∙ s .directory .first-last in
       below (bodyIndex p k i) (record { k = k; i = i; c = c; A = A; nth-clause = hc; nth-atom = hA; is = refl }) (omega (arith, body-there s hc hA .within))
 
 -- the clauses that the rows from `since` on and below r concern are in the set

@@ -1,9 +1,9 @@
 // The rounds: each looks at the combinations with a row of the last one, clause by clause, and only at clauses that a new row concerns.
 use crate::bodies::clause_of;
 use clauses::clauses::clause;
-use directory::layout::BODY_COUNT;
 use directory::layout::BODY_START;
 use directory::layout::CLAUSE_COUNT;
+use directory::layout::CLAUSE_FIRST;
 use directory::layout::CLAUSE_HEAD;
 use directory::layout::GOAL_GROUND;
 use directory::layout::SHAPE_CELLS;
@@ -55,18 +55,22 @@ fn note_heads(words: &[u16], dir: &[u16], set: &mut [u64])
     }
 }
 
-// Each clause, for the predicates of its body atoms.
+// Each clause, for the predicates of its body atoms. These stand behind those of the clause before.
 fn note_bodies(words: &[u16], dir: &[u16], set: &mut [u64])
     requires { ⌜ IndexAsked (now words) (now dir) × (length (now set) ≡ 64) ⌝ }
     ensures { λ _. ⌜ ((p : Program) → Setting (now (words .entry)) (now (dir .entry)) p → BodiesNoted p (now (set .exit))) ⌝ }
 {
-    let bodies = wide(dir[BODY_COUNT]);
+    let clauses = wide(dir[CLAUSE_COUNT]);
     let mut j = 0;
-    while j < bodies {
-        let predicate = wide(words[wide(dir[BODY_START + j])]);
-        let k = clause_of(words, dir, j);
-        note(set, predicate, k);
-        j += 1;
+    let mut k = 0;
+    while k < clauses {
+        let end = wide(dir[CLAUSE_FIRST + k + 1]);
+        while j < end {
+            let predicate = wide(words[wide(dir[BODY_START + j])]);
+            note(set, predicate, k);
+            j += 1;
+        }
+        k += 1;
     }
 }
 
