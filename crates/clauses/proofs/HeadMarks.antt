@@ -37,7 +37,7 @@ use Rattle.steps.proofs.Meetings.{setting-within}
 use Rattle.steps.proofs.Bodies.{head-is-atom}
 use Rattle.steps.proofs.SlotRows.{in-slot}
 use Rattle.solving.proofs.SolveLaws.{late-row}
-use Rattle.clauses.proofs.ClearedMarks.{cleared-empty}
+use Rattle.rows.proofs.ClearedMarks.{cleared-empty}
 
 -- marks of other variables than the head's pass nothing on
 module _ (H S : Term) (N q C R : ℕ) (k : Kept (λ v. Occ v H) N q) where

@@ -99,7 +99,20 @@ fn end_since<'a>(
     ) {
         return n;
     }
-    let rows = solve(words, dir, table, buckets, heads, n, at, k, found, from);
+    let rows = solve(
+        words,
+        dir,
+        table,
+        buckets,
+        heads,
+        seen,
+        answers,
+        n,
+        at,
+        k,
+        found,
+        from,
+    );
     clear(found, ((1usize << wide(dir[CLAUSE_VARS + k])) + 15) / 16);
     rows
 }

@@ -1,14 +1,12 @@
 -- The steps of the loops over answers and over cont rows: what they have given so far, and that the rules reach it.
-use Prim.Native.Nat.{ℕ, suc, _+_, _-_, _*_, _/_, _%_, _≤_, _<_}
+use Prim.Native.Nat.{ℕ, suc, _+_, _-_, _*_, _≤_, _<_}
 use native.Mathlib.Omega.{arith}
 use mathlib.Core.Path.{_≡_, refl, sym, subst, _∙_}
 use mathlib.Core.Bool.{Bool}
 use mathlib.Core.Logic.{_⊎_, inl, inr, ⊎-elim, _↔_}
 use mathlib.Core.List.{List}
 use lib.ListN.{length, getD, replicate}
-use lib.Dec.{T}
 use Rattle.terms.specs.Mask.{Has}
-use Rattle.terms.proofs.Masks.{has-decided}
 use Rattle.marks.specs.Modes.{modes, Together, Kept}
 use Rattle.rows.specs.Rows.{rowSize, slotAt, maskAt, beforeAt, keysOf}
 use Rattle.rows.proofs.Adding.{same-mask}
@@ -37,14 +35,6 @@ had-more seen₀ seen seen′ mask answers x N new less joined ins had q h =
 pub had-all : (seen : List ℕ) (mask : ℕ) (answers : List ℕ) (x upto : ℕ) (seen′ : List ℕ) → x < upto → ((q : ℕ) → InSet seen′ q → Had seen mask answers (x + 1) q)
     → (q : ℕ) → InSet seen′ q → Had seen mask answers upto q
 had-all seen mask answers x upto seen′ less had q h = ⊎-elim inl (λ m. inr (joined-fewer mask answers (x + 1) upto q (omega arith) m)) (had q h)
-
--- what was not put in was there
-pub was-there : (seen seen′ : List ℕ) (N : ℕ) (new : Bool) → Inserted seen seen′ N new → (T new → ⊥) → InSet seen N
-was-there seen seen′ N new ins old = at (has-decided (getD seen (N / 16) 0) (N % 16))
-  where
-    at : Dec (InSet seen N) → InSet seen N
-    at (yes h) = h
-    at (no o) = absurd (old (ins .was-new .1 o))
 
 module _ {dir order table answers seen : List ℕ} {count rows j mask upto n : ℕ} (w : JoinAsked dir order table answers seen count rows j mask upto n) (buckets : List ℕ) (round room : ℕ) where
   -- the rows of the marks in the set, and of those that the first x answers make, are there

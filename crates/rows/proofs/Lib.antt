@@ -6,3 +6,4 @@ pub mod Adding
 pub mod AddedRows
 pub mod Linking
 pub mod MaskSets
+pub mod ClearedMarks

@@ -1,18 +1,17 @@
 -- Sets of masks: what is in a set once a mask is put in, and that cleared words have nothing.
-use Prim.Native.Nat.{ℕ, suc, _+_, _*_, _-_, _/_, _%_, _^_, _≤_, _<_}
+use Prim.Native.Nat.{ℕ, _/_, _%_, _^_, _<_}
 use native.Mathlib.Omega.{arith}
 use native.Mathlib.Decide.{ℕ-discrete, decLt}
-use mathlib.Core.Path.{_≡_, refl, sym, ap, _∙_}
+use mathlib.Core.Path.{_≡_, ap}
 use mathlib.Core.Bool.{Bool, true, false}
 use mathlib.Core.List.{List, _++_}
 use mathlib.Core.Logic.{_↔_, _⊎_, inl, inr, ⊎-elim}
 use lib.ListN.{length, getD, set, drop, replicate, length-replicate, getD-replicate, List·getD-append, List·getD-eq-default}
-use lib.Seq.{getD-set-same, getD-set-other, getD-append-add, getD-drop}
+use lib.Seq.{getD-set-same, getD-set-other}
 use lib.Bits.{bitOr}
 use lib.Dec.{T}
-use Rattle.terms.specs.Mask.{Has}
-use Rattle.terms.proofs.Masks.{has-or, has-one, has-none}
-use Rattle.rows.specs.MaskSet.{setWords, InSet, Inserted}
+use Rattle.terms.proofs.Masks.{has-or, has-one, has-none, has-decided}
+use Rattle.rows.specs.MaskSet.{InSet, Inserted}
 
 -- an empty set has nothing
 pub none-in-zeros : (n q : ℕ) → InSet (replicate n 0) q → ⊥
@@ -22,25 +21,11 @@ none-in-zeros n q h = at (decLt (q / 16) n)
     at (yes l) = has-none (q % 16) (rw (getD-replicate {A = ℕ} n (q / 16) 0 0 l) at h)
     at (no o) = has-none (q % 16) (rw (List·getD-eq-default {A = ℕ} (replicate n 0) 0 {n = q / 16} (let e = length-replicate {A = ℕ} n 0 in omega arith)) at h)
 
--- the words that are not cleared are as they were
-cleared-word : (s : List ℕ) (n i : ℕ) → n ≤ i → getD (replicate n 0 ++ drop n s) i 0 ≡ getD s i 0
-cleared-word s n i h =
-    let e : n + (i - n) ≡ i = omega arith in
-    let l : length (replicate {A = ℕ} n 0) ≡ n = length-replicate {A = ℕ} n 0 in
-    let a = getD-append-add {A = ℕ} (replicate n 0) (drop n s) (i - n) 0 in
-    let b : getD (replicate n 0 ++ drop n s) (n + (i - n)) 0 ≡ getD (drop n s) (i - n) 0 = rw l at a in
-    let d : getD (drop n s) (i - n) 0 ≡ getD s (n + (i - n)) 0 = getD-drop n s (i - n) 0 in
-    rw e at (b ∙ d)
-
--- a set whose masks all stand in the first n words has nothing once these are cleared
-pub none-in-cleared : (s : List ℕ) (n q : ℕ) → ((p : ℕ) → InSet s p → p / 16 < n) → InSet (replicate n 0 ++ drop n s) q → ⊥
-none-in-cleared s n q below h = at (decLt (q / 16) n)
-  where
-    at : Dec (q / 16 < n) → ⊥
-    at (yes l) =
-        let a : getD (replicate n 0 ++ drop n s) (q / 16) 0 ≡ getD (replicate {A = ℕ} n 0) (q / 16) 0 = List·getD-append (replicate n 0) (drop n s) 0 (q / 16) (let e = length-replicate {A = ℕ} n 0 in omega arith) in
-        none-in-zeros n q (rw a at h)
-    at (no o) = let g : InSet s q = rw (cleared-word s n (q / 16) (omega arith)) at h in let l = below q g in o l
+-- the cleared words of a set have nothing
+pub none-in-cleared : (s : List ℕ) (n q : ℕ) → q / 16 < n → InSet (replicate n 0 ++ drop n s) q → ⊥
+none-in-cleared s n q l h =
+    let a : getD (replicate n 0 ++ drop n s) (q / 16) 0 ≡ getD (replicate {A = ℕ} n 0) (q / 16) 0 = List·getD-append (replicate n 0) (drop n s) 0 (q / 16) (let e = length-replicate {A = ℕ} n 0 in omega arith) in
+    none-in-zeros n q (rw a at h)
 
 module _ (s : List ℕ) (q : ℕ) (within : q / 16 < length s) where
   abbrev with-bit : List ℕ
@@ -62,3 +47,11 @@ module _ (s : List ℕ) (q : ℕ) (within : q / 16 < length s) where
 
 pub inserted-there : (s : List ℕ) (q : ℕ) → InSet s q → Inserted s s q false
 inserted-there s q h = record { was-new = (λ f. absurd f, λ f. absurd (f h)); members = λ p. (inl, ⊎-elim (λ i. i) (λ e. rw e h)) }
+
+-- what was not put in was there
+pub was-there : (s s′ : List ℕ) (q : ℕ) (new : Bool) → Inserted s s′ q new → (T new → ⊥) → InSet s q
+was-there s s′ q new ins old = at (has-decided (getD s (q / 16) 0) (q % 16))
+  where
+    at : Dec (InSet s q) → InSet s q
+    at (yes h) = h
+    at (no o) = absurd (old (ins .was-new .1 o))

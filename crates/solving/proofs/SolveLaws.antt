@@ -2,29 +2,33 @@
 use Prim.Native.Nat.{ℕ, _≤_, _<_}
 use native.Mathlib.Omega.{arith}
 use native.Mathlib.Decide.{decLt}
-use mathlib.Core.Path.{_≡_, refl, subst}
+use mathlib.Core.Path.{_≡_, refl, sym, subst}
 use mathlib.Core.Logic.{_⊎_, inl, inr, ⊎-elim, ⊎-map}
 use mathlib.Core.List.{List}
 use lib.ListN.{length}
+use lib.Bits.{bitOr, and-le-r}
 use Rattle.terms.specs.Term.{Term, Occ, All}
 use Rattle.terms.specs.Mask.{Has}
 use Rattle.terms.proofs.Substs.{all-occ, occ-all}
-use Rattle.terms.proofs.Masks.{has-none, marks-for}
+use Rattle.terms.proofs.Masks.{has-none, has-or, inside-and, marks-for}
 use Rattle.marks.specs.Pass.{Known, Marked, Pass}
 use Rattle.marks.specs.Modes.{modes, Together, Kept}
-use Rattle.program.specs.Program.{Clause, Program}
+use Rattle.marks.specs.Passing.{VariablesOf}
+use Rattle.marks.proofs.Passing.{pass-unique}
+use Rattle.program.specs.Program.{Nth, Clause, Program}
+use Rattle.program.specs.Shapes.{shapes}
 use Rattle.program.proofs.ShapeLaws.{nth-same}
 use Rattle.directory.specs.Layout.{maxShapes}
 use Rattle.rows.specs.Rows.{slotAt, maskAt, keysOf, keyOf as rowKey}
 use Rattle.rows.proofs.Keys.{key-listed}
-use Rattle.table.specs.Rules.{call, solution, solves}
+use Rattle.table.specs.Rules.{Row, call, solution, solves}
 use Rattle.table.specs.NewRows.{New}
-use Rattle.table.specs.Keys.{keyOf, rowAt}
+use Rattle.table.specs.Keys.{keyOf, rowAt, Regular, regular-call}
 use Rattle.table.proofs.Keys.{call-at}
 use Rattle.table.proofs.NewRows.{new-reached}
 use Rattle.steps.specs.Steps.{RowsIn, Given}
 use Rattle.steps.specs.Heads.{HeadMark}
-use Rattle.solving.specs.Solving.{ToShape, PassesTo}
+use Rattle.solving.specs.Solving.{ToShape, PassesTo, SolvedBy}
 use Rattle.steps.proofs.SlotRows.{at-slot}
 use Rattle.steps.proofs.ShapeLinks.{shape-below}
 
@@ -71,6 +75,15 @@ late-row p table from old r s C e m (there, new) = at (decLt r from)
     at (yes b) = absurd (new (there .0, rw (e, m) at (key-listed table from r b)))
     at (no b) = omega arith
 
+-- a mask of variables among those of another is at most that
+pub mask-within : {S : Term} {here : ℕ} (N : ℕ) → VariablesOf S here → ((v : ℕ) → Has N v → Occ v S) → N ≤ here
+mask-within {here = here} N all of =
+    rw (sym (inside-and N here .1 (λ v h. all .marked v .1 (of v h)))) (and-le-r N here)
+
+-- a call row's marks are of its shape's variables
+pub call-variables : {p : Program} {s M : ℕ} {S : Term} → Nth (shapes p) s S → Regular p (call s M) → (v : ℕ) → Has M v → Occ v S
+call-variables nth (regular-call nth′ of small) v h = subst (λ (T : Term). Occ v T) (nth-same nth′ nth) (of v h)
+
 module _ {table : List ℕ} {since old newest slot : ℕ} (w : ToShape table since old newest slot) where
   pub to-shape-below : w .s < maxShapes
   to-shape-below = shape-below (w .setting) (w .nth-shape)
@@ -104,3 +117,24 @@ module _ {table : List ℕ} {since old newest slot : ℕ} (w : ToShape table sin
           solves (w .nth-clause) reached (w .nth-shape) there (pass-kept (head .N) q kept (passes-own C R together)),
           solution-key R,
         )
+
+    -- what passes is of the shape's variables
+    pub passes-variables : (v : ℕ) → Has mask v → Occ v (w .S)
+    passes-variables v h = ⊎-elim (λ z. absurd (has-none v z)) (λ k. k .0) (passes .passed .result v .0 h)
+
+    -- and so is what it gives with the marks of a call row
+    pub both-variables : (C R : ℕ) → RowsIn (w .p) (keysOf table old) (call (w .s) C) → Together C mask R → (v : ℕ) → Has R v → Occ v (w .S)
+    both-variables C R there together v h = ⊎-elim (call-variables (w .nth-shape) (there .0) v) (passes-variables v) (together v .0 h)
+
+    -- marks that pass the same to the shape give the same rows
+    pub solved-alike : (q′ from : ℕ) (row : Row ℕ) → PassesTo w mask q′ → SolvedBy w from q row → SolvedBy w from q′ row
+    solved-alike q′ from row passes′ by =
+        let own : Together (by .C) mask (bitOr (by .C) mask) = has-or (by .C) mask in
+        let same : bitOr (by .C) mask ≡ by .R = pass-unique (passes-own (by .C) (bitOr (by .C) mask) own) (by .passed) in
+        record {
+          C = by .C;
+          there = by .there;
+          R = by .R;
+          passed = pass-own (by .C) (by .R) (passes′ .passed) (subst (λ (R : ℕ). Together (by .C) mask R) same own);
+          is = by .is;
+        }

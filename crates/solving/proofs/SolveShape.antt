@@ -1,30 +1,34 @@
--- Rule 3 for one shape: the marks in the set pass to it one after another, while the rows that were there stay.
+-- Rule 3 for one shape: the marks in the set pass to it one after another, each mask that passes once, while the rows that were there stay.
 use Prim.Native.Nat.{ℕ, _+_, _*_, _/_, _%_, _≤_, _<_}
 use native.Mathlib.Omega.{arith}
 use native.Mathlib.Decide.{decLt, ℕ-discrete}
 use mathlib.Core.Path.{_≡_, sym, subst}
-use mathlib.Core.Logic.{_⊎_, inl, inr}
+use mathlib.Core.Bool.{Bool}
+use mathlib.Core.Logic.{_⊎_, inl, inr, ⊎-elim}
 use mathlib.Core.List.{List, []}
-use lib.ListN.{length, getD}
+use lib.ListN.{length, getD, replicate}
+use lib.Dec.{T}
 use Rattle.terms.specs.Cells.{variables}
 use Rattle.terms.specs.Mask.{Marks}
 use Rattle.terms.proofs.Masks.{has-none}
 use Rattle.marks.specs.Modes.{modes}
-use Rattle.marks.specs.Passing.{MarkedIn}
+use Rattle.marks.specs.Passing.{MarkedIn, VariablesOf}
 use Rattle.marks.proofs.PassedOn.{second-to-first}
 use Rattle.program.specs.Program.{Program}
 use Rattle.rows.specs.Rows.{masks, keysOf}
-use Rattle.rows.specs.MaskSet.{InSet}
+use Rattle.rows.specs.MaskSet.{setWords, InSet, Inserted}
 use Rattle.rows.specs.Store.{SameRows}
+use Rattle.rows.proofs.MaskSets.{none-in-zeros, was-there}
 use Rattle.table.specs.Rules.{Row, call}
 use Rattle.table.specs.Keys.{keyOf}
 use Rattle.table.specs.NewRows.{NewReached}
 use Rattle.table.specs.RoundKeys.{Keyed}
 use Rattle.steps.specs.Steps.{RowsIn, Writable, Grew, Stepped}
 use Rattle.steps.specs.Heads.{HeadMark}
-use Rattle.solving.specs.Solving.{ToShape, PassesTo, SolvedBy, SolvedBelow, ShapeSets, FoundFor}
+use Rattle.solving.specs.Solving.{ToShape, PassesTo, SolvedBy, SolvedBelow, SetKeys, CallsAsked, ShapeSets, FoundFor}
 use Rattle.steps.proofs.Stepping.{keys-stay, grew-none, grew-must, stepped-then, stepped-within, stepped-past}
 use Rattle.steps.proofs.SlotRows.{chains-stay}
+use Rattle.solving.proofs.SolveLaws.{mask-within, passes-variables, solved-alike}
 
 -- marks that result on a head result with any table that has the same rows
 pub head-stays : (p : Program) (table₀ table : List ℕ) (old n k i q : ℕ) → old ≤ n → SameRows table₀ table n → HeadMark p table₀ 0 old k i q → HeadMark p table 0 old k i q
@@ -85,68 +89,131 @@ set-passes w unified found q q′ q″ mask small e in-set e′ marked =
           (rw e′ at marked);
     }
 
+-- N was passed to the shape by marks in the set below q
+abbrev pub PassedBelow : {table : List ℕ} {since old newest slot : ℕ} → ToShape table since old newest slot → List ℕ → ℕ → ℕ → Type 0
+PassedBelow w found q N = (m : ℕ) × (m < q) × InSet found m × PassesTo w N m
+
+-- the keys of the solution rows for the marks in the set below q, and of those whose masks are in `solved`
+abbrev Due : {table : List ℕ} {since old newest slot : ℕ} → ToShape table since old newest slot → ℕ → List ℕ → ℕ → List ℕ → ℕ → Type 0
+Due {slot = slot} w from found q solved key = Keyed (w .p) (SolvedBelow w from found q) key ⊎ SetKeys (w .S) slot solved key
+
+-- the marks below q were passed to the shape, and what was passed is in `seen`
+pub record Through {table₀ : List ℕ} {since old newest slot : ℕ} (w : ToShape table₀ since old newest slot) (from : ℕ) (found : List ℕ) (round room n : ℕ) (buckets₀ : List ℕ)
+    (q rows : ℕ) (table buckets seen solved : List ℕ) : Type 0 where
+  pub grew : Grew (w .p) (keysOf table₀ old) round room n table₀ buckets₀ (Due w from found q solved) rows table buckets
+  pub seen-passed : (N : ℕ) → InSet seen N → PassedBelow w found q N
+
 module _ {table₀ : List ℕ} {since old newest slot : ℕ} (w : ToShape table₀ since old newest slot) (from : ℕ) (found : List ℕ) (round room n : ℕ) (buckets₀ : List ℕ) where
-  -- the marks below q were passed to the shape
-  abbrev pub Through : ℕ → ℕ → List ℕ → List ℕ → Type 0
-  Through q rows table buckets = Grew (w .p) (keysOf table₀ old) round room n table₀ buckets₀ (Keyed (w .p) (SolvedBelow w from found q)) rows table buckets
+  abbrev At : ℕ → ℕ → List ℕ → List ℕ → List ℕ → List ℕ → Type 0
+  At q rows table buckets seen solved = Through w from found round room n buckets₀ q rows table buckets seen solved
 
-  pub through-begins : Writable table₀ buckets₀ n room → Through 0 n table₀ buckets₀
-  through-begins writable =
-      grew-none (w .p) (keysOf table₀ old) round room n table₀ buckets₀ _ writable (λ key k. absurd (let b = k .1 .1 in omega arith))
+  abbrev ks : List ℕ
+  ks = keysOf table₀ old
 
-  module _ (q rows : ℕ) (table buckets : List ℕ) (g : Through q rows table buckets) where
-    -- q is not in the set
-    pub through-past : (InSet found q → ⊥) → Through (q + 1) rows table buckets
-    through-past out =
-        grew-must (w .p) (keysOf table₀ old) round room n rows table₀ buckets₀ table buckets (Keyed (w .p) (SolvedBelow w from found q)) _ (λ key (row, (m, b, i, by), e). at key row m b i by e (ℕ-discrete m q)) g
-      where
-        at : (key : ℕ) (row : Row ℕ) (m : ℕ) → m < q + 1 → InSet found m → SolvedBy w from m row → key ≡ keyOf (w .p) row → Dec (m ≡ q) → Keyed (w .p) (SolvedBelow w from found q) key
-        at key row m b i by e (yes d) = absurd (out (rw d at i))
-        at key row m b i by e (no d) = (row, (m, omega arith, i, by), e)
+  pub through-begins : (here : ℕ) (seen solved : List ℕ) → VariablesOf (w .S) here → Writable table₀ buckets₀ n room → seen ≡ replicate setWords 0
+      → ((N : ℕ) → N ≤ here → InSet solved N → ⊥) → At 0 n table₀ buckets₀ seen solved
+  through-begins here seen solved all writable none-seen none-solved =
+      record {
+        grew = grew-none (w .p) ks round room n table₀ buckets₀ _ writable
+            (λ key. ⊎-elim (λ k. absurd (let b = k .1 .1 in omega arith)) (λ (N, of, in-set, e). absurd (none-solved N (mask-within N all of) in-set)));
+        seen-passed = λ N h. absurd (none-in-zeros setWords N (rw none-seen at h));
+      }
 
+  module _ (q rows : ℕ) (table buckets seen solved : List ℕ) (t : At q rows table buckets seen solved) where
     -- none is in the set from q on and below r
-    pub through-none : (r : ℕ) → ((m : ℕ) → q ≤ m → m < r → InSet found m → ⊥) → Through r rows table buckets
-    through-none r none =
-        grew-must (w .p) (keysOf table₀ old) round room n rows table₀ buckets₀ table buckets (Keyed (w .p) (SolvedBelow w from found q)) _
-        (λ key (row, (m, b, i, by), e). at key row m b i by e (decLt m q)) g
+    pub through-none : (r : ℕ) → q ≤ r → ((m : ℕ) → q ≤ m → m < r → InSet found m → ⊥) → At r rows table buckets seen solved
+    through-none r l none =
+        record {
+          grew =
+              grew-must (w .p) ks round room n rows table₀ buckets₀ table buckets (Due w from found q solved) _
+              (λ key. ⊎-elim (λ (row, (m, b, i, by), e). inl (at key row m b i by e (decLt m q))) inr) (t .grew);
+          seen-passed = λ N h. let (m, b, i, passes) = t .seen-passed N h in (m, omega arith, i, passes);
+        }
       where
         at : (key : ℕ) (row : Row ℕ) (m : ℕ) → m < r → InSet found m → SolvedBy w from m row → key ≡ keyOf (w .p) row → Dec (m < q) → Keyed (w .p) (SolvedBelow w from found q) key
         at key row m b i by e (yes d) = (row, (m, d, i, by), e)
         at key row m b i by e (no d) = absurd (none m (omega arith) b i)
 
+    -- q is not in the set
+    pub through-past : (InSet found q → ⊥) → At (q + 1) rows table buckets seen solved
+    through-past out = through-none (q + 1) (omega arith) (λ m a b i. let e : m ≡ q = omega arith in out (rw e at i))
+
     -- all that are asked for
-    pub through-ends : (marks : ℕ) → marks ≤ q
-        → Stepped (w .p) (keysOf table₀ old) round room n table₀ buckets₀ (Keyed (w .p) (SolvedBelow w from found marks)) rows table buckets
+    pub through-ends : (marks : ℕ) → marks ≤ q → Stepped (w .p) ks round room n table₀ buckets₀ (Keyed (w .p) (SolvedBelow w from found marks)) rows table buckets
     through-ends marks l =
-        inl (grew-must (w .p) (keysOf table₀ old) round room n rows table₀ buckets₀ table buckets (Keyed (w .p) (SolvedBelow w from found q)) _
-        (λ key (row, (m, b, i, by), e). (row, (m, omega arith, i, by), e)) g)
+        inl (grew-must (w .p) ks round room n rows table₀ buckets₀ table buckets (Due w from found q solved) _
+        (λ key (row, (m, b, i, by), e). inl (row, (m, omega arith, i, by), e)) (t .grew))
 
-    module _ (behind : old ≤ n) where
-      abbrev now-there : ToShape table since old newest slot
-      now-there = to-stays w table n behind (g .same-rows) (g .same-length)
+    -- what was passed is of the shape's variables
+    pub seen-within : (here : ℕ) → VariablesOf (w .S) here → (N : ℕ) → InSet seen N → N ≤ here
+    seen-within here all N h = let (m, b, i, passes) = t .seen-passed N h in mask-within N all (passes-variables w N m passes)
 
-      module _ (r : ℕ) (table′ buckets′ : List ℕ)
-          (s : Stepped (w .p) (keysOf table old) round room rows table buckets (Keyed (w .p) (SolvedBy now-there from q)) r table′ buckets′) where
-        abbrev Both : ℕ → Type 0
-        Both key = Keyed (w .p) (SolvedBelow w from found q) key ⊎ Keyed (w .p) (SolvedBy now-there from q) key
+    module _ (mask : ℕ) (new : Bool) (seen′ : List ℕ) (in-set : InSet found q) (passes : PassesTo w mask q) (ins : Inserted seen seen′ mask new) where
+      seen-more : (N : ℕ) → InSet seen′ N → PassedBelow w found (q + 1) N
+      seen-more N h =
+          ⊎-elim (λ o. let (m, b, i, passes′) = t .seen-passed N o in (m, omega arith, i, passes′))
+          (λ e. (q, omega arith, in-set, subst (λ (M : ℕ). PassesTo w M q) (sym e) passes)) (ins .members N .0 h)
 
-        both : Stepped (w .p) (keysOf table₀ old) round room n table₀ buckets₀ Both r table′ buckets′
-        both =
-            stepped-then (w .p) (keysOf table₀ old) round room n rows r table₀ buckets₀ table buckets table′ buckets′ (Keyed (w .p) (SolvedBelow w from found q)) (Keyed (w .p) (SolvedBy now-there from q)) g
-            (subst (λ (ks : List ℕ). Stepped (w .p) ks round room rows table buckets (Keyed (w .p) (SolvedBy now-there from q)) r table′ buckets′)
-            (keys-stay table₀ table n old behind (g .same-rows)) s)
+      pub seen-more-within : (here : ℕ) → VariablesOf (w .S) here → (N : ℕ) → InSet seen′ N → N ≤ here
+      seen-more-within here all N h = let (m, b, i, passes′) = seen-more N h in mask-within N all (passes-variables w N m passes′)
 
-        pub through-full : {Must : ℕ → Type 0} → room < r → Stepped (w .p) (keysOf table₀ old) round room n table₀ buckets₀ Must r table′ buckets′
-        through-full past = inr (stepped-past (w .p) (keysOf table₀ old) round room n r table₀ buckets₀ table′ buckets′ Both both past)
+      -- the same was passed before, and gave the same rows
+      pub through-again : (T new → ⊥) → At (q + 1) rows table buckets seen′ solved
+      through-again old-one =
+          record {
+            grew =
+                grew-must (w .p) ks round room n rows table₀ buckets₀ table buckets (Due w from found q solved) _
+                (λ key. ⊎-elim (λ (row, (m, b, i, by), e). inl (at key row m b i by e (ℕ-discrete m q))) inr) (t .grew);
+            seen-passed = seen-more;
+          }
+        where
+          before : PassedBelow w found q mask
+          before = t .seen-passed mask (was-there seen seen′ mask new ins old-one)
 
-        pub through-on : from ≤ old → r ≤ room → Through (q + 1) r table′ buckets′
-        through-on within-old within =
-            grew-must (w .p) (keysOf table₀ old) round room n r table₀ buckets₀ table′ buckets′ Both _ (λ key (row, (m, b, i, by), e). at key row m b i by e (ℕ-discrete m q))
-            (stepped-within (w .p) (keysOf table₀ old) round room n r table₀ buckets₀ table′ buckets′ Both both within)
-          where
-            at : (key : ℕ) (row : Row ℕ) (m : ℕ) → m < q + 1 → InSet found m → SolvedBy w from m row → key ≡ keyOf (w .p) row → Dec (m ≡ q) → Both key
-            at key row m b i by e (yes d) = inr (row, solved-stays w table n behind (g .same-rows) (g .same-length) from q row within-old (rw d at by), e)
-            at key row m b i by e (no d) = inl (row, (m, omega arith, i, by), e)
+          at : (key : ℕ) (row : Row ℕ) (m : ℕ) → m < q + 1 → InSet found m → SolvedBy w from m row → key ≡ keyOf (w .p) row → Dec (m ≡ q) → Keyed (w .p) (SolvedBelow w from found q) key
+          at key row m b i by e (yes d) =
+              (row, (before .0, before .1, before .2, solved-alike w mask q passes (before .0) from row (before .3) (rw d at by)), e)
+          at key row m b i by e (no d) = (row, (m, omega arith, i, by), e)
+
+      module _ (behind : old ≤ n) where
+        abbrev pub calls-asked : CallsAsked table solved since old newest slot mask rows
+        calls-asked =
+            record {
+              to = to-stays w table n behind (t .grew .same-rows) (t .grew .same-length);
+              q = q;
+              passes = passes-stay w table n behind (t .grew .same-rows) (t .grew .same-length) mask q passes;
+              solved-there = λ key k. t .grew .all key (inr k);
+            }
+
+        abbrev Now : List ℕ → ℕ → Type 0
+        Now solved′ key = Keyed (w .p) (SolvedBy (calls-asked .to) from q) key ⊎ SetKeys (w .S) slot solved′ key
+
+        module _ (r : ℕ) (table′ buckets′ solved′ : List ℕ) (s : Stepped (w .p) (keysOf table old) round room rows table buckets (Now solved′) r table′ buckets′) where
+          abbrev Both : ℕ → Type 0
+          Both key = Due w from found q solved key ⊎ Now solved′ key
+
+          both : Stepped (w .p) ks round room n table₀ buckets₀ Both r table′ buckets′
+          both =
+              stepped-then (w .p) ks round room n rows r table₀ buckets₀ table buckets table′ buckets′ (Due w from found q solved) (Now solved′) (t .grew)
+              (subst (λ (ks′ : List ℕ). Stepped (w .p) ks′ round room rows table buckets (Now solved′) r table′ buckets′)
+              (keys-stay table₀ table n old behind (t .grew .same-rows)) s)
+
+          pub through-full : {Must : ℕ → Type 0} → room < r → Stepped (w .p) ks round room n table₀ buckets₀ Must r table′ buckets′
+          through-full past = inr (stepped-past (w .p) ks round room n r table₀ buckets₀ table′ buckets′ Both both past)
+
+          pub through-on : from ≤ old → r ≤ room → At (q + 1) r table′ buckets′ seen′ solved′
+          through-on within-old within =
+              record {
+                grew =
+                    grew-must (w .p) ks round room n r table₀ buckets₀ table′ buckets′ Both _
+                    (λ key. ⊎-elim (λ (row, (m, b, i, by), e). at key row m b i by e (ℕ-discrete m q)) (λ k. inr (inr k)))
+                    (stepped-within (w .p) ks round room n r table₀ buckets₀ table′ buckets′ Both both within);
+                seen-passed = seen-more;
+              }
+            where
+              at : (key : ℕ) (row : Row ℕ) (m : ℕ) → m < q + 1 → InSet found m → SolvedBy w from m row → key ≡ keyOf (w .p) row → Dec (m ≡ q) → Both key
+              at key row m b i by e (yes d) = inr (inl (row, solved-stays w table n behind (t .grew .same-rows) (t .grew .same-length) from q row within-old (rw d at by), e))
+              at key row m b i by e (no d) = inl (inl (row, (m, omega arith, i, by), e))
 
 -- an empty word has no mark
 pub empty-word : (found : List ℕ) (q r : ℕ) → getD found (q / 16) 0 ≡ 0 → r ≡ q / 16 * 16 + 16 → (m : ℕ) → q < m → m < r → InSet found m → ⊥

@@ -1,15 +1,16 @@
 -- Rule 3, a shape and a call row at a time: what is asked of the steps, and what they must add.
 use Prim.Native.Nat.{ℕ, _+_, _≤_, _<_}
 use mathlib.Core.Path.{_≡_}
-use mathlib.Core.List.{List}
+use mathlib.Core.List.{List, List·Memᴰ}
 use lib.ListN.{length, getD}
-use Rattle.terms.specs.Term.{Term}
+use Rattle.terms.specs.Term.{Term, Occ}
+use Rattle.terms.specs.Mask.{Has}
 use Rattle.marks.specs.Modes.{modes}
 use Rattle.marks.specs.Pass.{Pass}
 use Rattle.marks.specs.Passing.{VariablesOf}
 use Rattle.program.specs.Program.{Nth, Clause, Program}
 use Rattle.program.specs.Shapes.{shapes}
-use Rattle.rows.specs.Rows.{masks, keysOf}
+use Rattle.rows.specs.Rows.{masks, keysOf, keyOf}
 use Rattle.rows.specs.MaskSet.{setWords, InSet}
 use Rattle.table.specs.Rules.{Row, call, solution}
 use Rattle.table.specs.NewRows.{New}
@@ -63,11 +64,16 @@ pub record FoundFor {table : List ℕ} {since rows newest slot : ℕ} (w : ToSha
 abbrev pub SolvedBelow : {table : List ℕ} {since rows newest slot : ℕ} → ToShape table since rows newest slot → ℕ → List ℕ → ℕ → Row ℕ → Type 0
 SolvedBelow w from found marks row = (q : ℕ) × (q < marks) × InSet found q × SolvedBy w from q row
 
--- what is asked before the call rows of a shape are gone through
-pub record CallsAsked (table : List ℕ) (since rows newest slot mask : ℕ) : Type 0 where
+-- the keys of a slot's rows whose masks are in the set, and of the variables of S alone
+abbrev pub SetKeys : Term → ℕ → List ℕ → ℕ → Type 0
+SetKeys S slot set key = (N : ℕ) × ((v : ℕ) → Has N v → Occ v S) × InSet set N × (key ≡ keyOf slot N)
+
+-- what is asked before the call rows of a shape are gone through: the solution rows of the masks in the set are among the first n
+pub record CallsAsked (table solved : List ℕ) (since rows newest slot mask n : ℕ) : Type 0 where
   pub to : ToShape table since rows newest slot
   pub q : ℕ
   pub passes : PassesTo to mask q
+  pub solved-there : (key : ℕ) → SetKeys (to .S) slot solved key → List·Memᴰ key (keysOf table n)
 
 -- what is asked before the marks in the set go to a shape
 pub record ShapeAsked (table sets found : List ℕ) (since from rows newest slot here there marks : ℕ) : Type 0 where

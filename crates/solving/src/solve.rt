@@ -7,9 +7,11 @@ use directory::layout::SHAPE_NEXT;
 use directory::layout::SHAPE_VARS;
 use marks::rows::together;
 use rows::maskset::contains;
+use rows::maskset::insert;
 use rows::row::before_at;
 use rows::row::mask_at;
 use rows::store::add;
+use rows::zeros::clear;
 use steps::meet::first_variables;
 use steps::meet::meet;
 use steps::meet::passed;
@@ -18,17 +20,19 @@ use steps::place::SOLUTIONS;
 use terms::walk::narrow;
 use terms::walk::wide;
 ghost use mathlib.Core.Path.{_≡_};
+ghost use mathlib.Core.Logic.{_⊎_};
 ghost use Prim.Native.Nat.{ℕ, _+_, _≤_, _<_};
-ghost use lib.ListN.{length};
+ghost use lib.ListN.{length, replicate};
 ghost use Rattle.rows.specs.Rows.{masks, keysOf};
 ghost use Rattle.rows.specs.MaskSet.{setWords, InSet};
 ghost use Rattle.table.specs.RoundKeys.{Keyed};
 ghost use Rattle.steps.specs.Situation.{Situation};
 ghost use Rattle.steps.specs.Steps.{Writable, Stepped};
 ghost use Rattle.steps.specs.Heads.{Solved, SolveAsked};
-ghost use Rattle.solving.specs.Solving.{ToShape, PassesTo, SolvedBy, SolvedBelow, ShapeSets, FoundFor, CallsAsked, ShapeAsked};
+ghost use Rattle.solving.specs.Solving.{ToShape, SolvedBy, SolvedBelow, SetKeys, ShapeSets, FoundFor, CallsAsked, ShapeAsked};
 
-// All call rows of one shape, from row `from` on, keep their own marks beside those that the head passes.
+// All call rows of one shape, from row `from` on, keep their own marks beside those that the head passes. Each union of marks gives its row once, since
+// those in the set `solved` have theirs.
 fn solve_calls(
     table: &mut [u16],
     buckets: &mut [u16],
@@ -38,11 +42,13 @@ fn solve_calls(
     slot: u16,
     mask: u16,
     from: usize,
+    solved: &mut [u16],
 ) -> usize
-    requires { ⌜ CallsAsked (now table) (at .since) (at .rows) newest slot mask × Writable (now table) (now buckets) n (at .room) × (at .rows ≤ n) ⌝ }
-    ensures { λ r. ⌜ ((w : ToShape (now (table .entry)) (at .since) (at .rows) newest slot) (q : ℕ) → PassesTo w mask q
-        → Stepped (w .p) (keysOf (now (table .entry)) (at .rows)) (at .number) (at .room) n (now (table .entry)) (now (buckets .entry))
-        (Keyed (w .p) (SolvedBy w from q)) r (now (table .exit)) (now (buckets .exit))) ⌝ }
+    requires { ⌜ CallsAsked (now table) (now solved) (at .since) (at .rows) newest slot mask n × Writable (now table) (now buckets) n (at .room) × (at .rows ≤ n)
+        × (length (now solved) ≡ setWords) ⌝ }
+    ensures { λ r. ⌜ ((a : CallsAsked (now (table .entry)) (now (solved .entry)) (at .since) (at .rows) newest slot mask n)
+        → Stepped (a .to .p) (keysOf (now (table .entry)) (at .rows)) (at .number) (at .room) n (now (table .entry)) (now (buckets .entry))
+        (λ key. Keyed (a .to .p) (SolvedBy (a .to) from (a .q)) key ⊎ SetKeys (a .to .S) slot (now (solved .exit)) key) r (now (table .exit)) (now (buckets .exit))) ⌝ }
 {
     let number = at.number;
     let room = at.room;
@@ -51,17 +57,12 @@ fn solve_calls(
     while from < link {
         let row = link - 1;
         let own = mask_at(table, row);
-        rows = add(
-            table,
-            buckets,
-            rows,
-            room,
-            number,
-            slot,
-            together(own, mask),
-        );
-        if room < rows {
-            return rows;
+        let both = together(own, mask);
+        if insert(solved, both) {
+            rows = add(table, buckets, rows, room, number, slot, both);
+            if room < rows {
+                return rows;
+            }
         }
         link = before_at(table, row);
     }
@@ -79,7 +80,50 @@ fn next_mark(found: &[u16], q: usize) -> usize
     q + 1
 }
 
-// The marks on the head that the set has, to one shape.
+// The marks on the head that the set `found` has, to one shape. Marks that pass the same go to its call rows once: what was passed is in the set `seen`.
+fn solve_marks(
+    table: &mut [u16],
+    buckets: &mut [u16],
+    n: usize,
+    at: Round,
+    newest: usize,
+    slot: u16,
+    sets: &[u32; 32],
+    here: u16,
+    there: u16,
+    found: &[u16],
+    marks: usize,
+    from: usize,
+    seen: &mut [u16],
+    solved: &mut [u16],
+) -> usize
+    requires { ⌜ ShapeAsked (now table) (now sets) (now found) (at .since) from (at .rows) newest slot here there marks × Writable (now table) (now buckets) n (at .room) × (at .rows ≤ n)
+        × (now seen ≡ replicate setWords 0) × (length (now solved) ≡ setWords) × ((N : ℕ) → N ≤ here → InSet (now solved) N → ⊥) ⌝ }
+    ensures { λ r. ⌜ ((N : ℕ) → InSet (now (seen .exit)) N → N ≤ here)
+        × ((w : ToShape (now (table .entry)) (at .since) (at .rows) newest slot) → ShapeSets w (now (sets .entry)) here there → FoundFor w (now (found .entry))
+        → Stepped (w .p) (keysOf (now (table .entry)) (at .rows)) (at .number) (at .room) n (now (table .entry)) (now (buckets .entry))
+        (Keyed (w .p) (SolvedBelow w from (now (found .entry)) marks)) r (now (table .exit)) (now (buckets .exit))) ⌝ }
+{
+    let room = at.room;
+    let mut rows = n;
+    let mut q = 0;
+    while q < marks {
+        if contains(found, narrow(q)) {
+            let r = passed(sets, 16, narrow(q), there, 0, here);
+            if insert(seen, r) {
+                rows = solve_calls(table, buckets, rows, at, newest, slot, r, from, solved);
+                if room < rows {
+                    return rows;
+                }
+            }
+        }
+        q = next_mark(found, q);
+    }
+    rows
+}
+
+// The marks on the head to one shape, with both sets empty at first, and `seen` empty again at the end: the words that can have a mask of the shape's
+// variables are cleared.
 fn solve_shape(
     table: &mut [u16],
     buckets: &mut [u16],
@@ -93,43 +137,57 @@ fn solve_shape(
     found: &[u16],
     marks: usize,
     from: usize,
+    seen: &mut [u16],
+    solved: &mut [u16],
 ) -> usize
-    requires { ⌜ ShapeAsked (now table) (now sets) (now found) (at .since) from (at .rows) newest slot here there marks × Writable (now table) (now buckets) n (at .room) × (at .rows ≤ n) ⌝ }
-    ensures { λ r. ⌜ ((w : ToShape (now (table .entry)) (at .since) (at .rows) newest slot) → ShapeSets w (now (sets .entry)) here there → FoundFor w (now (found .entry))
+    requires { ⌜ ShapeAsked (now table) (now sets) (now found) (at .since) from (at .rows) newest slot here there marks × Writable (now table) (now buckets) n (at .room) × (at .rows ≤ n)
+        × (now seen ≡ replicate setWords 0) × (length (now solved) ≡ setWords) ⌝ }
+    ensures { λ r. ⌜ (now (seen .exit) ≡ replicate setWords 0)
+        × ((w : ToShape (now (table .entry)) (at .since) (at .rows) newest slot) → ShapeSets w (now (sets .entry)) here there → FoundFor w (now (found .entry))
         → Stepped (w .p) (keysOf (now (table .entry)) (at .rows)) (at .number) (at .room) n (now (table .entry)) (now (buckets .entry))
         (Keyed (w .p) (SolvedBelow w from (now (found .entry)) marks)) r (now (table .exit)) (now (buckets .exit))) ⌝ }
 {
-    let room = at.room;
-    let mut rows = n;
-    let mut q = 0;
-    while q < marks {
-        if contains(found, narrow(q)) {
-            let r = passed(sets, 16, narrow(q), there, 0, here);
-            rows = solve_calls(table, buckets, rows, at, newest, slot, r, from);
-            if room < rows {
-                return rows;
-            }
-        }
-        q = next_mark(found, q);
-    }
+    let words = wide(here) / 16 + 1;
+    clear(solved, words);
+    let rows = solve_marks(
+        table,
+        buckets,
+        n,
+        at,
+        newest,
+        slot,
+        sets,
+        here,
+        there,
+        found,
+        marks,
+        from,
+        seen,
+        solved,
+    );
+    clear(seen, words);
     rows
 }
 
-// The marks on the head of clause k, to every shape that has a call row from row `from` on.
+// The marks on the head of clause k, to every shape that has a call row from row `from` on. `seen` and `solved` are lent for sets of masks.
 pub fn solve<'a>(
     words: &'a [u16],
     dir: &'a [u16],
     table: &mut [u16],
     buckets: &mut [u16],
     heads: &[u16],
+    seen: &mut [u16],
+    solved: &mut [u16],
     n: usize,
     at: Round,
     k: usize,
     found: &[u16],
     from: usize,
 ) -> usize
-    requires { ⌜ SolveAsked (now words) (now dir) (now table) (now heads) (now found) (at .since) from (at .rows) k × Writable (now table) (now buckets) n (at .room) × (at .rows ≤ n) ⌝ }
-    ensures { λ r. ⌜ ((w : Situation (now (words .entry)) (now (dir .entry)) (now (table .entry)) (now (heads .entry)) (at .since) (at .rows))
+    requires { ⌜ SolveAsked (now words) (now dir) (now table) (now heads) (now found) (at .since) from (at .rows) k × Writable (now table) (now buckets) n (at .room) × (at .rows ≤ n)
+        × (now seen ≡ replicate setWords 0) × (length (now solved) ≡ setWords) ⌝ }
+    ensures { λ r. ⌜ (now (seen .exit) ≡ replicate setWords 0)
+        × ((w : Situation (now (words .entry)) (now (dir .entry)) (now (table .entry)) (now (heads .entry)) (at .since) (at .rows))
         → Stepped (w .p) (keysOf (now (table .entry)) (at .rows)) (at .number) (at .room) n (now (table .entry)) (now (buckets .entry))
         (Keyed (w .p) (Solved (w .p) (now (table .entry)) from (at .rows) k (now (found .entry)))) r (now (table .exit)) (now (buckets .exit))) ⌝ }
 {
@@ -162,6 +220,8 @@ pub fn solve<'a>(
                     found,
                     marks,
                     from,
+                    seen,
+                    solved,
                 );
                 if room < rows {
                     return rows;

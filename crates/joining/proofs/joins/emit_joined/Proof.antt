@@ -6,11 +6,11 @@ use borrow.Author.Needs.{needs}
 use mathlib.Core.Logic.{inl, inr, ⊎-elim}
 use mathlib.Core.Path.{_≡_, _∙_, sym}
 use lib.ListN.{length}
-use lib.Dec.{T}
 use Rattle.rows.specs.MaskSet.{setWords, InSet}
+use Rattle.rows.proofs.MaskSets.{was-there}
 use Rattle.steps.proofs.Stepping.{stepped-within, stepped-past}
 use Rattle.joining.specs.Joined.{Had, JoinAsked}
-use Rattle.joining.proofs.JoinSteps.{AnswersGrew, had-more, had-all, was-there, answers-begin, answers-end, answer-had, answer-emitted}
+use Rattle.joining.proofs.JoinSteps.{AnswersGrew, had-more, had-all, answers-begin, answers-end, answer-had, answer-emitted}
 use Rattle.joining.proofs.joins.emit_joined.Statement.{statement}
 use Rattle.joining.proofs.joins.emit_joined.Tie as tie
 

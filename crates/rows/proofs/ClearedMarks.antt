@@ -1,17 +1,17 @@
--- The set of head marks after its use: the words that had marks are cleared, and so the set is empty again.
-use Prim.Native.Nat.{ℕ, suc, _+_, _-_, _*_, _/_, _%_, _^_, _≤_, _<_}
+-- A set of masks after its use: the words that had marks are cleared, and so the set is empty again.
+use Prim.Native.Nat.{ℕ, _+_, _-_, _*_, _/_, _%_, _^_, _≤_, _<_}
 use native.Mathlib.Omega.{arith}
 use native.Mathlib.Nat.{one-mul, mod-eq-of-lt}
 use native.Mathlib.Decide.{decLt}
-use mathlib.Core.Path.{_≡_, refl, sym, ap, _∙_}
+use mathlib.Core.Path.{_≡_, sym, _∙_}
 use mathlib.Core.List.{List, _++_}
 use lib.ListN.{length, getD, drop, replicate, length-replicate, length-append, length-drop, getD-replicate, List·getD-append}
 use lib.Seq.{ext-getD, getD-append-add, getD-drop}
 use lib.Pow.{pow-mono}
 use Rattle.terms.specs.Mask.{Has}
 use Rattle.terms.proofs.Masks.{has-none, has-below, same-marks}
 use Rattle.rows.specs.Rows.{masks}
 use Rattle.rows.specs.MaskSet.{setWords, InSet}
 
 -- how many words the marks of so many variables take
 pub marks-shifted : (v : ℕ) → v ≤ 16 → (1 * 2 ^ v % 18446744073709551616 ≡ 2 ^ v) × (2 ^ v ≤ 65536)
