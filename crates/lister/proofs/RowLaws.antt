@@ -21,7 +21,7 @@ use Rattle.table.specs.Keys.{Regular, regular-call, regular-cont, regular-solut
 use Rattle.steps.proofs.Meetings.{setting-within}
 use Rattle.text.specs.Decimal.{decimal}
 use Rattle.text.specs.Line.{tab, lineFeed}
-use Rattle.writer.specs.Tokens.{line}
+use Rattle.written_lines.specs.Tokens.{line}
 use Rattle.lister.specs.Letters.{occursIn, isListed, lettersOf}
 use Rattle.lister.specs.Set.{inSet}
 use Rattle.lister.specs.Listing.{shapeAt, clauseAt, rowLine}

@@ -14,9 +14,9 @@ use Rattle.directory.proofs.DirectoryLaws.{shape-sound}
 use Rattle.steps.proofs.Meetings.{setting-within}
 use Rattle.text.specs.Put.{Put}
 use Rattle.writer.specs.Names.{namesReply}
-use Rattle.writer.specs.Tokens.{atomTokens, behindTabs}
-use Rattle.writer.specs.Walked.{Named, Written}
-use Rattle.writer.specs.declared.walked.Walked.{Walked}
+use Rattle.written_lines.specs.Tokens.{atomTokens, behindTabs}
+use Rattle.written_lines.specs.Walked.{Named, Written}
+use Rattle.written_lines.specs.declared.walked.Walked.{Walked}
 use Rattle.writer.proofs.Answers.{names-size}
 use Rattle.lister.specs.Asked.{ShapeAsked}
 

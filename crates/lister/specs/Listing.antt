@@ -9,7 +9,7 @@ use Rattle.program.specs.Shapes.{shapes}
 use Rattle.table.specs.Rules.{Row, call, cont, solution}
 use Rattle.table.specs.Table.{Entry}
 use Rattle.text.specs.Decimal.{decimal}
-use Rattle.writer.specs.Tokens.{atomTokens, line}
+use Rattle.written_lines.specs.Tokens.{atomTokens, line}
 use Rattle.lister.specs.Letters.{occursIn, isListed, lettersOf}
 
 -- the words that lines begin with: `modes`, `shape`, `call`, `cont`, `sol`, `end`

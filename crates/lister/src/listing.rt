@@ -13,7 +13,7 @@ ghost use lib.ListN.{length};
 ghost use Rattle.program.specs.Shapes.{shapes};
 ghost use Rattle.text.specs.Decimal.{decimal};
 ghost use Rattle.text.specs.Put.{Put};
-ghost use Rattle.writer.specs.Tokens.{line};
+ghost use Rattle.written_lines.specs.Tokens.{line};
 ghost use Rattle.lister.specs.Listing.{modesWord, endWord, version, shapeLines, rowLines, listingOf};
 ghost use Rattle.lister.specs.Asked.{Spoken, Tabled, ListingAsked};
 

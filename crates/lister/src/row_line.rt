@@ -15,7 +15,7 @@ ghost use mathlib.Core.List.{[], _∷_};
 ghost use Rattle.terms.specs.Mask.{Marks};
 ghost use Rattle.text.specs.Decimal.{decimal};
 ghost use Rattle.text.specs.Put.{Put};
-ghost use Rattle.writer.specs.Tokens.{line};
+ghost use Rattle.written_lines.specs.Tokens.{line};
 ghost use Rattle.lister.specs.Letters.{lettersOf};
 ghost use Rattle.lister.specs.Set.{inSet};
 ghost use Rattle.lister.specs.Listing.{rowLine};

@@ -9,7 +9,7 @@ use text::cut::LINE_FEED;
 use text::put::put_byte;
 use text::put::put_bytes;
 use text::put::put_wide;
-use writer::atoms::put_atom;
+use written_lines::atoms::put_atom;
 ghost use lib.ListN.{length};
 ghost use Rattle.text.specs.Put.{Put};
 ghost use Rattle.lister.specs.Listing.{shapeLine};

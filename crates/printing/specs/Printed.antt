@@ -11,7 +11,7 @@ use Rattle.text.specs.Decimal.{decimal}
 use Rattle.reader.specs.Table.{wrong, right}
 use Rattle.reader.specs.Lines.{Scenario}
 use Rattle.reader.specs.Read.{readOf}
-use Rattle.writer.specs.Tokens.{line}
+use Rattle.written_lines.specs.Tokens.{line}
 use Rattle.lister.specs.Listed.{Listed}
 
 -- `refused`

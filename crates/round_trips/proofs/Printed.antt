@@ -11,7 +11,7 @@ use Rattle.program.specs.Within.{Each, none, more}
 use Rattle.text.specs.Line.{lineFeed, tab, parts}
 use Rattle.text.specs.Name.{nameBytes}
 use Rattle.text.specs.Token.{isLower, isDigit, isNameByte, every, isName, lowerA, digit0, underscore}
-use Rattle.writer.specs.Tokens.{behindTabs, line}
+use Rattle.written_lines.specs.Tokens.{behindTabs, line}
 use Rattle.round_trips.proofs.Tokens.{both-true}
 
 -- bytes that stand in no cut

@@ -20,7 +20,7 @@ use Rattle.program.proofs.WordsOfTerms.{function-opens, variable-opens}
 use Rattle.text.specs.Decimal.{decimal}
 use Rattle.reader.specs.Table.{wrong, right, next, Table}
 use Rattle.reader.specs.Cells.{Row, modeOf, lookOf, withSymbol, withVariable, takenAt, complete, cellsOf}
-use Rattle.writer.specs.Tokens.{symbolToken, argumentToken, atomTokens}
+use Rattle.written_lines.specs.Tokens.{symbolToken, argumentToken, atomTokens}
 use Rattle.round_trips.proofs.Tokens.{both-true, signByte, variable-token-is}
 use Rattle.round_trips.proofs.ReadParts.{next-right}
 use Rattle.round_trips.proofs.ReadTokens.{Declares, Takes, starts, function, variable, token-takes}

@@ -21,8 +21,8 @@ use Rattle.reader.specs.Table.{right, Table}
 use Rattle.reader.specs.Cells.{Row, noCells, cellsOf}
 use Rattle.reader.specs.Lines.{withClause, clauseLine}
 use Rattle.reader.proofs.DeclaredLines.{open-few}
-use Rattle.writer.specs.Tokens.{symbolToken, argumentToken, atomTokens, atomsTokens, line}
-use Rattle.writer.specs.Write.{declarations, clauseLines}
+use Rattle.written_lines.specs.Tokens.{symbolToken, argumentToken, atomTokens, atomsTokens, line}
+use Rattle.written_lines.specs.Lines.{declarations, clauseLines}
 use Rattle.round_trips.proofs.Printed.{each-append}
 use Rattle.round_trips.proofs.ReadParts.{next-right, first-right}
 use Rattle.round_trips.proofs.ReadTokens.{Declares}

@@ -23,8 +23,8 @@ use Rattle.reader.specs.Declarations.{declaring, fresh, arityOf, symbolOf, two,
 use Rattle.reader.specs.declared.declare.Declared.the-variants.{Fault, Symbol}
 use Rattle.reader.proofs.Symbols.{entry-front}
 use Rattle.reader.proofs.DeclaredLines.{open-few}
-use Rattle.writer.specs.Tokens.{symbolToken, line}
-use Rattle.writer.specs.Write.{declarations, clauseLines}
+use Rattle.written_lines.specs.Tokens.{symbolToken, line}
+use Rattle.written_lines.specs.Lines.{declarations, clauseLines}
 use Rattle.round_trips.proofs.Tokens.{both-true, number-decimal}
 use Rattle.round_trips.proofs.ReadParts.{first-right}
 use Rattle.round_trips.proofs.Printed.{each-append}

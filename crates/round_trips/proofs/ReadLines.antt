@@ -6,7 +6,7 @@ use mathlib.Core.List.{List, [], _∷_, _++_}
 use lib.Dec.{eqb}
 use borrow.Author.Tests.{eqb-true}
 use Rattle.text.specs.Line.{parts, onto, tab, lineFeed}
-use Rattle.writer.specs.Tokens.{behindTabs, line}
+use Rattle.written_lines.specs.Tokens.{behindTabs, line}
 
 -- the parts behind the first, each behind a separator
 abbrev pub behindEach : ℕ → List (List ℕ) → List ℕ

@@ -16,8 +16,8 @@ use Rattle.reader.specs.Table.{right}
 use Rattle.reader.specs.Declarations.{fresh}
 use Rattle.reader.proofs.Kepts.{seek-alike}
 use Rattle.reader.proofs.Symbols.{entry-front, entry-last}
-use Rattle.writer.specs.Names.{nameIn, isEntry, firstOf, isSound, eachName, namesOf}
-use Rattle.writer.specs.Tokens.{symbolToken}
+use Rattle.writer.specs.Names.{isEntry, firstOf, isSound, eachName, namesOf}
+use Rattle.written_lines.specs.Tokens.{nameIn, symbolToken}
 use Rattle.round_trips.proofs.Tokens.{both-true, name-in-padded}
 
 -- name i is well formed, and the first that is so called from a number on

@@ -23,7 +23,7 @@ use Rattle.reader.specs.Keyword.{query}
 use Rattle.reader.specs.Table.{right, Table}
 use Rattle.reader.specs.Cells.{Row, noCells, cellsOf}
 use Rattle.reader.specs.Lines.{Scenario, withGoal, queryLine}
-use Rattle.writer.specs.Tokens.{atomTokens, line}
+use Rattle.written_lines.specs.Tokens.{atomTokens, line}
 use Rattle.writer.specs.Write.{textOf}
 use Rattle.round_trips.proofs.ReadParts.{next-right, first-right}
 use Rattle.round_trips.proofs.ReadModes.{Modal, no-modes}

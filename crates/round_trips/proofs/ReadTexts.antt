@@ -18,7 +18,7 @@ use Rattle.reader.specs.declared.keyword.Kind.{Kind}
 use Rattle.reader.specs.declared.keyword.Kind.the-variants.{Pred, Func, Clause, Query, Other}
 use Rattle.reader.proofs.LineKinds.{KindIs, kind-is}
 use Rattle.reader.proofs.TextLines.{afterLine, linesOf-more}
-use Rattle.writer.specs.Tokens.{line}
+use Rattle.written_lines.specs.Tokens.{line}
 use Rattle.round_trips.proofs.ReadLines.{behindEach, parts-together, line-together}
 use Rattle.round_trips.proofs.ReadParts.{next-right, second-right}
 use Rattle.round_trips.proofs.ReadDeclarations.{ReadSoFar, nothing-so-far, pred-read, func-read}

@@ -19,8 +19,7 @@ use Rattle.text.specs.declared.token.Token.the-variants.{Wrong, Name, Variable}
 use Rattle.reader.specs.declared.look.Look.the-variants.{Fault, Symbol, Variable as Met}
 use Rattle.reader.specs.Table.{right, Table}
 use Rattle.reader.specs.Cells.{Row, modeOf, namedOf, variableAt, startOf, argumentOf, lookOf, withSymbol, withVariable, takenAt}
-use Rattle.writer.specs.Names.{nameIn}
-use Rattle.writer.specs.Tokens.{symbolToken}
+use Rattle.written_lines.specs.Tokens.{nameIn, symbolToken}
 use Rattle.round_trips.proofs.Tokens.{signByte, Variable-token, variable-token, name-token, name-in-padded, seek-found}
 
 -- the declarations before the clauses: the arities of each kind, in their places

@@ -19,8 +19,7 @@ use Rattle.text.specs.declared.token.Number.{Number}
 use Rattle.text.specs.declared.token.Number.the-variants.{None, Value}
 use Rattle.text.proofs.Names.{same-equal}
 use Rattle.reader.specs.Cells.{modeOf}
-use Rattle.writer.specs.Names.{nameIn}
-use Rattle.writer.specs.Tokens.{variableToken}
+use Rattle.written_lines.specs.Tokens.{nameIn, variableToken}
 
 pub both-true : (a b : Bool) → a && b ≡ true → (a ≡ true) × (b ≡ true)
 both-true true b e = (refl, e)

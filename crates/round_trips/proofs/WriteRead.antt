@@ -17,8 +17,9 @@ use Rattle.reader.specs.Table.{right, nothing}
 use Rattle.reader.specs.Lines.{Scenario}
 use Rattle.reader.specs.Read.{maxBytes, readOf}
 use Rattle.writer.specs.Names.{namesOf}
-use Rattle.writer.specs.Tokens.{atomTokens, line}
-use Rattle.writer.specs.Write.{declarations, clauseLines, textOf, written, writeOf}
+use Rattle.written_lines.specs.Tokens.{atomTokens, line}
+use Rattle.written_lines.specs.Lines.{declarations, clauseLines}
+use Rattle.writer.specs.Write.{textOf, written, writeOf}
 use Rattle.round_trips.proofs.ReadParts.{next-right}
 use Rattle.round_trips.proofs.ReadNames.{Sound-names, names-right}
 use Rattle.round_trips.proofs.WrittenNames.{names-sound}

@@ -19,7 +19,7 @@ use Rattle.reader.specs.declared.look.Look.{Look}
 use Rattle.reader.specs.declared.look.Look.the-variants.{Symbol, Variable as Met}
 use Rattle.reader.specs.Table.{right, Table}
 use Rattle.reader.specs.Cells.{Row, modeOf, lookOf, takenAt, withSymbol, withVariable, complete, cellsOf}
-use Rattle.writer.specs.Tokens.{symbolToken, variableToken, argumentToken, atomTokens}
+use Rattle.written_lines.specs.Tokens.{symbolToken, variableToken, argumentToken, atomTokens}
 use Rattle.round_trips.proofs.ReadNames.{Sound-names}
 use Rattle.round_trips.proofs.WrittenCells.{Mode, modesUpTo, declaredTable, rowAt, variable-read, start-symbol, argument-symbol, argument-variable}
 

@@ -22,7 +22,7 @@ use Rattle.text.proofs.Tokens.{tokenOf-name}
 use Rattle.reader.specs.declared.look.Look.the-variants.{Fault, Symbol, Variable as Met}
 use Rattle.reader.specs.Table.{Table}
 use Rattle.reader.specs.Cells.{Row, modeOf, lookOf}
-use Rattle.writer.specs.Tokens.{symbolToken, variableToken}
+use Rattle.written_lines.specs.Tokens.{symbolToken, variableToken}
 use Rattle.round_trips.proofs.PrintedNumbers.{number-printed}
 use Rattle.round_trips.proofs.ReadNames.{Sound-names}
 use Rattle.round_trips.proofs.WrittenNames.{sound-name, Sound-name, name-found, first-predicate, first-function}

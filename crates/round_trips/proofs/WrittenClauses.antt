@@ -18,8 +18,8 @@ use Rattle.program.proofs.AtomWords.{afterAll}
 use Rattle.reader.specs.Keyword.{clause}
 use Rattle.reader.specs.Table.{right}
 use Rattle.reader.specs.Lines.{more as goesOn, Scenario, fieldsOf}
-use Rattle.writer.specs.Tokens.{atomsTokens, line}
-use Rattle.writer.specs.Write.{clauseLines}
+use Rattle.written_lines.specs.Tokens.{atomsTokens, line}
+use Rattle.written_lines.specs.Lines.{clauseLines}
 use Rattle.round_trips.proofs.Printed.{name-printed}
 use Rattle.round_trips.proofs.ReadNames.{Sound-names}
 use Rattle.round_trips.proofs.WrittenCells.{Mode, declaredTable, words-behind, rowAt}

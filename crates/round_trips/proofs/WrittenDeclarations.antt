@@ -18,8 +18,8 @@ use Rattle.reader.specs.Declarations.{symbolOf}
 use Rattle.reader.specs.declared.declare.Declared.the-variants.{Symbol}
 use Rattle.reader.specs.Lines.{more as goesOn, Scenario, fieldsOf}
 use Rattle.writer.specs.Names.{firstOf}
-use Rattle.writer.specs.Tokens.{symbolToken, line}
-use Rattle.writer.specs.Write.{declarations}
+use Rattle.written_lines.specs.Tokens.{symbolToken, line}
+use Rattle.written_lines.specs.Lines.{declarations}
 use Rattle.round_trips.proofs.Printed.{Bytes, Printed, name-printed}
 use Rattle.round_trips.proofs.PrintedNumbers.{number-printed}
 use Rattle.round_trips.proofs.ReadNames.{Sound-names}

@@ -12,8 +12,9 @@ use Rattle.program.specs.Within.{Each, none, more, after, modesOf, encodeAtoms,
 use Rattle.text.specs.Decimal.{decimal}
 use Rattle.reader.specs.Keyword.{pred, func, clause, query}
 use Rattle.reader.specs.Read.{maxBytes}
-use Rattle.writer.specs.Tokens.{symbolToken, atomTokens, atomsTokens, behindTabs, line}
-use Rattle.writer.specs.Write.{declarations, clauseLines, textOf}
+use Rattle.written_lines.specs.Tokens.{symbolToken, atomTokens, atomsTokens, behindTabs, line}
+use Rattle.written_lines.specs.Lines.{declarations, clauseLines}
+use Rattle.writer.specs.Write.{textOf}
 use Rattle.round_trips.proofs.Printed.{Printed, tabs-length, line-length}
 use Rattle.round_trips.proofs.WrittenDeclarations.{arity-printed}
 use Rattle.round_trips.proofs.ReadNames.{Sound-names}

@@ -10,7 +10,7 @@ use Rattle.text.specs.Line.{lineFeed, tab, onto, parts}
 use Rattle.reader.specs.Table.{right, Table}
 use Rattle.reader.proofs.TextLines.{linesOf-more}
 use Rattle.reader.specs.Lines.{more, last, Scenario, fieldsOf, allLines}
-use Rattle.writer.specs.Tokens.{behindTabs, line}
+use Rattle.written_lines.specs.Tokens.{behindTabs, line}
 use Rattle.round_trips.proofs.Printed.{Bytes, Printed, fields-cut, line-cut}
 
 -- the text is read from the table on as what is said, wherever it begins

@@ -16,7 +16,8 @@ use Rattle.text.proofs.Names.{same-equal, same-refl}
 use Rattle.reader.specs.Table.{right}
 use Rattle.reader.proofs.Kepts.{seek-alike}
 use Rattle.reader.proofs.Symbols.{entry-front}
-use Rattle.writer.specs.Names.{nameIn, isEntry, firstOf, isSound, eachName, namesOf}
+use Rattle.written_lines.specs.Tokens.{nameIn}
+use Rattle.writer.specs.Names.{isEntry, firstOf, isSound, eachName, namesOf}
 use Rattle.round_trips.proofs.Tokens.{both-true}
 use Rattle.round_trips.proofs.ReadParts.{first-right, second-right}
 use Rattle.round_trips.proofs.ReadNames.{Sound-names}

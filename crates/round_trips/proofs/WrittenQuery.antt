@@ -15,7 +15,7 @@ use Rattle.program.proofs.Modes.{modes-each, modes-length}
 use Rattle.reader.specs.Keyword.{query}
 use Rattle.reader.specs.Table.{right}
 use Rattle.reader.specs.Lines.{last, Scenario, fieldsOf}
-use Rattle.writer.specs.Tokens.{atomTokens, line}
+use Rattle.written_lines.specs.Tokens.{atomTokens, line}
 use Rattle.round_trips.proofs.Printed.{name-printed}
 use Rattle.round_trips.proofs.ReadNames.{Sound-names}
 use Rattle.round_trips.proofs.WrittenCells.{Mode, modesUpTo, declaredTable, words-behind, rowAt}

@@ -13,7 +13,7 @@ use Rattle.program.specs.Limits.{groundMode}
 use Rattle.program.specs.Within.{Each, none, more, encodeAtoms}
 use Rattle.text.specs.Line.{lineFeed}
 use Rattle.text.specs.Token.{upperV, upperG}
-use Rattle.writer.specs.Tokens.{symbolToken, variableToken, argumentToken, atomTokens, atomsTokens}
+use Rattle.written_lines.specs.Tokens.{symbolToken, variableToken, argumentToken, atomTokens, atomsTokens}
 use Rattle.round_trips.proofs.Printed.{Printed, each-append, name-printed}
 use Rattle.round_trips.proofs.PrintedNumbers.{number-printed}
 use Rattle.round_trips.proofs.ReadNames.{Sound-names}

@@ -10,9 +10,10 @@ use Rattle.directory.specs.Said.{said, Accepted}
 use Rattle.directory.specs.From.{Clauses-from, Goal-from}
 use Rattle.directory.proofs.AcceptedWords.{said-within, predicate-count, function-count, clause-count, predicates-are, functions-within, functions-are, clauses-within, clauses-cut, goalPart}
 use Rattle.reader.specs.Keyword.{pred, func, query}
-use Rattle.writer.specs.Tokens.{atomTokens, line}
-use Rattle.writer.specs.Write.{declarations, clauseLines, textOf}
-use Rattle.writer.specs.Walked.{Named}
+use Rattle.written_lines.specs.Tokens.{atomTokens, line}
+use Rattle.written_lines.specs.Lines.{declarations, clauseLines}
+use Rattle.written_lines.specs.Walked.{Named}
+use Rattle.writer.specs.Write.{textOf}
 
 module _ (words : List ℕ) (a : Accepted words) (p f n : ℕ) (p-is : p ≡ getD words 0 0) (f-is : f ≡ getD words 1 0) (n-is : n ≡ getD words 2 0) where
   abbrev program : Program

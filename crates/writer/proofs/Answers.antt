@@ -21,7 +21,7 @@ use Rattle.directory.specs.Said.{Accepted}
 use Rattle.reader.specs.Table.{Read, wrong, right, next}
 use Rattle.writer.specs.Names.{isSound, eachName, namesOf, namesReply}
 use Rattle.writer.specs.Write.{textOf, writeOf, roomFor, answerOf, replyOf, textIn}
-use Rattle.writer.specs.Walked.{roomed}
+use Rattle.writer.specs.Roomed.{roomed}
 
 -- a reply, and a room of zeros
 abbrev pub Refused : List ℕ → List ℕ → ℕ → Reply → Type 0

@@ -14,7 +14,8 @@ use Rattle.text.specs.Line.{upTo}
 use Rattle.text.specs.Name.{nameBytes, entry, markOf, Marked}
 use Rattle.text.proofs.Cuts.{upTo-take}
 use Rattle.reader.specs.Table.{wrong, right}
-use Rattle.writer.specs.Names.{nameIn, firstOf, isSound, eachName}
+use Rattle.written_lines.specs.Tokens.{nameIn}
+use Rattle.writer.specs.Names.{firstOf, isSound, eachName}
 
 -- the bytes before the first zero are the name
 pub name-front : (key : List ℕ) (end : ℕ) → end ≡ 0 + length (upTo 0 (drop 0 key)) → take end key ≡ nameIn key

@@ -6,14 +6,10 @@ use lib.ListN.{length}
 use lib.Dec.{eqb, ltb}
 use Rattle.program.specs.Reply.{tooSoon, follows, badName, refused, done}
 use Rattle.program.specs.declared.reply.Reply.{Reply}
-use Rattle.text.specs.Line.{upTo}
 use Rattle.text.specs.Token.{isName}
 use Rattle.text.specs.Name.{nameBytes, padded, entry, same, seek}
 use Rattle.reader.specs.Table.{Read, wrong, right}
-
--- the name of which these are the 16 bytes: those before the first zero
-abbrev pub nameIn : List ℕ → List ℕ
-nameIn e = upTo 0 e
+use Rattle.written_lines.specs.Tokens.{nameIn}
 
 -- a name, and nothing but zeros behind it
 abbrev pub isEntry : List ℕ → Bool

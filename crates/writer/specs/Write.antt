@@ -1,32 +1,21 @@
 -- `writeOf`: the faults of a program and its names, or its text; and what `write` hands back of it.
-use Prim.Native.Nat.{ℕ, suc, _+_}
+use Prim.Native.Nat.{ℕ, _+_}
 use mathlib.Core.Bool.{cond}
-use mathlib.Core.List.{List, [], _∷_, _++_}
+use mathlib.Core.List.{List, [], _++_}
 use lib.ListN.{length}
 use lib.Dec.{ltb}
 use Rattle.terms.specs.Cells.{enc}
-use Rattle.program.specs.Program.{Clause, Program}
+use Rattle.program.specs.Program.{Program}
 use Rattle.program.specs.Within.{after, modesOf}
 use Rattle.program.specs.Faults.{Found, fault, sound, faults}
 use Rattle.program.specs.Reply.{noRoom, refused, done}
 use Rattle.program.specs.declared.reply.Reply.{Reply}
 use Rattle.text.specs.Room.{inRoom}
-use Rattle.text.specs.Decimal.{decimal}
-use Rattle.reader.specs.Keyword.{pred, func, clause, query}
+use Rattle.reader.specs.Keyword.{pred, func, query}
 use Rattle.reader.specs.Table.{Read, wrong, right, next}
+use Rattle.written_lines.specs.Tokens.{atomTokens, line}
+use Rattle.written_lines.specs.Lines.{declarations, clauseLines}
 use Rattle.writer.specs.Names.{namesOf}
-use Rattle.writer.specs.Tokens.{symbolToken, atomTokens, atomsTokens, line}
-
--- the declarations of one kind, whose first name has number i
-abbrev pub declarations : List ℕ → List ℕ → ℕ → List ℕ → List ℕ
-declarations keyword names i [] = []
-declarations keyword names i (arity ∷ arities) =
-    line keyword (symbolToken names i ∷ decimal arity ∷ []) ++ declarations keyword names (suc i) arities
-
-abbrev pub clauseLines : List ℕ → ℕ → List Clause → List ℕ
-clauseLines names predicates [] = []
-clauseLines names predicates (c ∷ cs) =
-    line clause (atomsTokens names predicates (c .head ∷ c .body)) ++ clauseLines names predicates cs
 
 -- "First the `pred` lines (name, arity), then `func` lines, then `clause` lines, then one `query` line, last."
 abbrev pub textOf : Program → List ℕ → List ℕ

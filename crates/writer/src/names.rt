@@ -15,7 +15,7 @@ ghost use mathlib.Core.Path.{_≡_};
 ghost use Prim.Native.Nat.{_+_, _*_, _≤_};
 ghost use lib.ListN.{length};
 ghost use Rattle.text.specs.Name.{nameBytes, maxNames, entry, Marked};
-ghost use Rattle.writer.specs.Walked.{NameAt};
+ghost use Rattle.written_lines.specs.Walked.{NameAt};
 ghost use Rattle.writer.specs.Names.{isEntry, firstOf, isSound, eachName, namesOf, namesReply};
 
 // A name, and nothing but zeros behind it.

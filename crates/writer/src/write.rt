@@ -1,7 +1,4 @@
 // From an encoded program with names to scenario text.
-use crate::lines::put_clauses;
-use crate::lines::put_declarations;
-use crate::lines::put_query;
 use crate::names::names_reply;
 use program::reply::ACCEPTED;
 use program::reply::NO_ROOM;
@@ -9,12 +6,16 @@ use program::reply::Reply;
 use program::scan::scan;
 use terms::walk::wide;
 use text::put::clear;
+use written_lines::lines::put_clauses;
+use written_lines::lines::put_declarations;
+use written_lines::lines::put_query;
 ghost use mathlib.Core.Path.{_≡_};
 ghost use lib.ListN.{length};
 ghost use Rattle.directory.specs.Said.{said, Accepted};
 ghost use Rattle.text.specs.Put.{Put};
+ghost use Rattle.written_lines.specs.Walked.{Named};
 ghost use Rattle.writer.specs.Write.{textOf, answerOf, replyOf, textIn};
-ghost use Rattle.writer.specs.Walked.{Named, roomed};
+ghost use Rattle.writer.specs.Roomed.{roomed};
 
 const FIRST_ARITY: usize = 3;
 
