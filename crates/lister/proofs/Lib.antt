@@ -1,9 +1,6 @@
 -- Laws of the crate that belong to no one function.
 pub mod ListedOnce
 pub mod Samples
-pub mod LetterLaws
-pub mod RowLaws
-pub mod ShapeCells
 pub mod Tails
 pub mod LineLaws
 pub mod Replies

@@ -15,9 +15,14 @@ use Rattle.directory.proofs.Cuts.{nth-take}
 use Rattle.table.specs.Rules.{Row, call, cont, solution}
 use Rattle.table.specs.Table.{Entry, rowSize, rowWords, entryWords, tableWords}
 use Rattle.table.proofs.Entries.{table-words-length}
-use Rattle.lister.specs.Listing.{shapeLine, shapeLines, rowLine, rowLines}
-use Rattle.lister.specs.Lines.{RowIn}
-use Rattle.lister.specs.Asked.{Spoken, Tabled, ShapeAsked, ListingAsked}
+use Rattle.steps.proofs.Meetings.{setting-within}
+use Rattle.written_lines.specs.Walked.{Named}
+use Rattle.writer.specs.Names.{namesReply}
+use Rattle.writer.proofs.Answers.{names-size}
+use Rattle.listing_lines.specs.Lines.{shapeLine, rowLine}
+use Rattle.listing_lines.specs.Asked.{RowIn, Spoken, ShapeAsked}
+use Rattle.lister.specs.Listing.{shapeLines, rowLines}
+use Rattle.lister.specs.Asked.{Tabled, ListingAsked}
 
 module _ (names : List ℕ) (predicates : ℕ) where
   shapes-append : (s : ℕ) (l m : List Term) → shapeLines names predicates s (l ++ m) ≡ shapeLines names predicates s l ++ shapeLines names predicates (s + length l) m
@@ -122,5 +127,15 @@ next-shape {words} {dir} w s count e l =
     let (S, h) = shape-under words (w .p) (w .setting .accepted) dir (w .setting .directory) s (rw e at l) in
     record { spoken = w; S = S; nth-shape = h }
 
+-- sound names are those of the program's symbols
+pub names-there : {words dir names table : List ℕ} {rows : ℕ} (w : ListingAsked words dir names table rows)
+    → Named names (length (w .tabled .p .predicates)) (length (w .tabled .p .functions))
+names-there {names = names} w =
+    let l = setting-within (w .tabled .setting) in
+    record {
+      few = omega (arith, l .predicates-most, l .functions-most);
+      size = names-size names (length (w .tabled .p .predicates)) _ (ap (λ x. namesReply x .number) (w .named));
+    }
+
 abbrev pub spoken-of : {words dir names table : List ℕ} {rows : ℕ} → ListingAsked words dir names table rows → Spoken words dir names
-spoken-of w = record { p = w .tabled .p; setting = rw (w .words-are) at (w .tabled .setting); named = w .named }
+spoken-of w = record { p = w .tabled .p; setting = rw (w .words-are) at (w .tabled .setting); named = names-there w }

@@ -1,70 +1,30 @@
 -- `listingOf`: the listing of a program's table, line by line. "Tabs and LFs are as in the text."
-use Prim.Native.Nat.{ℕ, suc, _-_}
+use Prim.Native.Nat.{ℕ, suc}
 use mathlib.Core.List.{List, [], _∷_, _++_}
-use lib.ListN.{length, getD}
-use Rattle.terms.specs.Term.{Term, var}
-use Rattle.terms.specs.Cells.{enc}
-use Rattle.program.specs.Program.{Clause, Program}
+use lib.ListN.{length}
+use Rattle.terms.specs.Term.{Term}
+use Rattle.program.specs.Program.{Program}
 use Rattle.program.specs.Shapes.{shapes}
-use Rattle.table.specs.Rules.{Row, call, cont, solution}
 use Rattle.table.specs.Table.{Entry}
 use Rattle.text.specs.Decimal.{decimal}
-use Rattle.written_lines.specs.Tokens.{atomTokens, line}
-use Rattle.lister.specs.Letters.{occursIn, isListed, lettersOf}
+use Rattle.written_lines.specs.Tokens.{line}
+use Rattle.listing_lines.specs.Lines.{shapeLine, rowLine}
 
--- the words that lines begin with: `modes`, `shape`, `call`, `cont`, `sol`, `end`
+-- the words that the first and the last line begin with: `modes`, `end`
 abbrev pub modesWord : List ℕ
 modesWord = 109 ∷ 111 ∷ 100 ∷ 101 ∷ 115 ∷ []
 
-abbrev pub shapeWord : List ℕ
-shapeWord = 115 ∷ 104 ∷ 97 ∷ 112 ∷ 101 ∷ []
-
-abbrev pub callWord : List ℕ
-callWord = 99 ∷ 97 ∷ 108 ∷ 108 ∷ []
-
-abbrev pub contWord : List ℕ
-contWord = 99 ∷ 111 ∷ 110 ∷ 116 ∷ []
-
-abbrev pub solWord : List ℕ
-solWord = 115 ∷ 111 ∷ 108 ∷ []
-
 abbrev pub endWord : List ℕ
 endWord = 101 ∷ 110 ∷ 100 ∷ []
-
-abbrev pub dot : ℕ
-dot = 46
 
 -- "The first line is the listing's version."
 abbrev pub version : ℕ
 version = 1
 
--- "Shape lines, one for each shape: number, cells." Those of the shapes from number s on.
-abbrev pub shapeLine : List ℕ → ℕ → ℕ → Term → List ℕ
-shapeLine names predicates s S = line shapeWord (decimal s ∷ atomTokens names predicates [] (enc S))
-
+-- the lines of the shapes from number s on
 abbrev pub shapeLines : List ℕ → ℕ → ℕ → List Term → List ℕ
 shapeLines names predicates s [] = []
 shapeLines names predicates s (S ∷ Ss) = shapeLine names predicates s S ++ shapeLines names predicates (suc s) Ss
-
--- the shape and the clause with a number, clauses from 1 on; every row has one
-abbrev pub shapeAt : Program → ℕ → Term
-shapeAt p s = getD (shapes p) s (var 0)
-
-abbrev pub clauseAt : Program → ℕ → Clause
-clauseAt p n = getD (p .clauses) (n - 1) (record { head = var 0; body = [] })
-
-abbrev pub shapeRow : Program → List ℕ → ℕ → ℕ → ℕ → List ℕ
-shapeRow p kind round s mask = line kind (decimal round ∷ decimal s ∷ lettersOf (occursIn (shapeAt p s)) mask ∷ [])
-
-abbrev pub placeRow : Program → ℕ → ℕ → ℕ → ℕ → List ℕ
-placeRow p round n i mask =
-    line contWord (decimal round ∷ (decimal n ++ dot ∷ decimal i) ∷ lettersOf (isListed (clauseAt p n) (i - 1)) mask ∷ [])
-
--- "Row lines: kind, round, shape (or clause.place), then `g` or `a` for each variable of the shape (or list) in order"
-abbrev pub rowLine : Program → ℕ → Row ℕ → List ℕ
-rowLine p round (call s mask) = shapeRow p callWord round s mask
-rowLine p round (cont n i mask) = placeRow p round n i mask
-rowLine p round (solution s mask) = shapeRow p solWord round s mask
 
 abbrev pub rowLines : Program → List Entry → List ℕ
 rowLines p [] = []

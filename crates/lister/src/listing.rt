@@ -1,7 +1,7 @@
 // The listing, "written line by line, each into the part of the buffer after the last".
-use crate::row_line::row_line;
-use crate::shape_line::shape_line;
 use directory::layout::SHAPE_COUNT;
+use listing_lines::row_line::row_line;
+use listing_lines::shape_line::shape_line;
 use terms::walk::wide;
 use text::cut::LINE_FEED;
 use text::put::put_byte;
@@ -14,8 +14,9 @@ ghost use Rattle.program.specs.Shapes.{shapes};
 ghost use Rattle.text.specs.Decimal.{decimal};
 ghost use Rattle.text.specs.Put.{Put};
 ghost use Rattle.written_lines.specs.Tokens.{line};
+ghost use Rattle.listing_lines.specs.Asked.{Spoken};
 ghost use Rattle.lister.specs.Listing.{modesWord, endWord, version, shapeLines, rowLines, listingOf};
-ghost use Rattle.lister.specs.Asked.{Spoken, Tabled, ListingAsked};
+ghost use Rattle.lister.specs.Asked.{Tabled, ListingAsked};
 
 // "The first line is the listing's version."
 fn version_line(out: &mut [u8]) -> usize

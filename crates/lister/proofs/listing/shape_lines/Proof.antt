@@ -11,8 +11,8 @@ use Rattle.terms.specs.Term.{Term}
 use Rattle.program.specs.Shapes.{shapes}
 use Rattle.text.specs.Put.{Put}
 use Rattle.text.proofs.Puts.{put-nothing, put-append, put-length}
+use Rattle.listing_lines.specs.Asked.{Spoken}
 use Rattle.lister.specs.Listing.{shapeLines}
-use Rattle.lister.specs.Asked.{Spoken}
 use Rattle.lister.proofs.Tails.{put-rest, tail-put, tail-end}
 use Rattle.lister.proofs.LineLaws.{shapes-more, shapes-rest, next-shape}
 use Rattle.lister.proofs.listing.shape_lines.Statement.{statement}
