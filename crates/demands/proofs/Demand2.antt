@@ -16,8 +16,7 @@ use Rattle.table.specs.Table.{roomIn, MoreThan}
 use Rattle.table.proofs.Promise.{sound-same}
 use Rattle.runs.specs.TableRows.{StandsIn}
 use Rattle.runs.proofs.TableRuns.{promise-trusted}
-use Rattle.reader.specs.Table.{right}
-use Rattle.reader.specs.Lines.{Scenario}
+use Rattle.cells.specs.Table.{right, Scenario}
 use Rattle.reader.specs.Read.{readOf}
 use Rattle.writer.specs.Write.{textOf, writeOf}
 use Rattle.lister.specs.Listed.{namesFor}

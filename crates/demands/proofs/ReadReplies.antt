@@ -11,10 +11,9 @@ use borrow.Author.Tests.{ltb-true, ltb-false}
 use Rattle.program.specs.Reply.{accepted, noRoom}
 use Rattle.text.specs.Room.{inRoom}
 use Rattle.text.proofs.Rooms.{inRoom-empty}
-use Rattle.reader.specs.Table.{Read, wrong, right, next}
-use Rattle.reader.specs.Lines.{Scenario}
+use Rattle.cells.specs.Table.{Read, wrong, right, next, Scenario}
 use Rattle.reader.specs.Read as reads
-use Rattle.reader.proofs.Readings.{wrong-or-right}
+use Rattle.cells.proofs.Readings.{wrong-or-right}
 use Rattle.writer.specs.Write as writes
 use Rattle.round_trips.proofs.ReadFaults.{FaultyBy, read-faults}
 use Rattle.round_trips.proofs.WriteFaults.{write-faults}

@@ -13,8 +13,8 @@ use Rattle.program.proofs.FaultNumbers.{fault-number}
 use Rattle.table.specs.Table.{Entry, roomIn, TableOf, MoreThan, Promise, faulty as by-fault, listed as by-table, full, unmarked}
 use Rattle.table.proofs.Promise.{table-once, fault-or-sound, sound-same, promise-unique, no-room-more, accepted-listed, refused-zeros, neither-never}
 use Rattle.table.proofs.PromiseMet.{promise-met}
-use Rattle.reader.specs.Table.{right}
-use Rattle.reader.proofs.Readings.{wrong-or-right}
+use Rattle.cells.specs.Table.{right}
+use Rattle.cells.proofs.Readings.{wrong-or-right}
 use Rattle.lister.specs.Listing.{listingOf}
 use Rattle.lister.specs.Listed.{namesFor, Refused, Listed, faulty, misnamed, unlisted, over, listed}
 use Rattle.lister.proofs.ListedOnce.{listed-unique, listed-met}

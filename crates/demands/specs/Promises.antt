@@ -9,8 +9,7 @@ use Rattle.program.specs.Faults.{sound, faults}
 use Rattle.program.specs.declared.reply.Reply.{Reply}
 use Rattle.table.specs.Table.{Entry, roomIn, TableOf, MoreThan, Promise}
 use Rattle.text.specs.Name.{nameBytes}
-use Rattle.reader.specs.Table.{Read, right}
-use Rattle.reader.specs.Lines.{Scenario}
+use Rattle.cells.specs.Table.{Read, right, Scenario}
 use Rattle.reader.specs.Read as reads
 use Rattle.writer.specs.Write as writes
 use Rattle.lister.specs.Listing.{listingOf}

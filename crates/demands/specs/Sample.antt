@@ -8,7 +8,7 @@ use Rattle.program.specs.Reply.{noRoom, refused, done}
 use Rattle.table.specs.Rules.{Row}
 use Rattle.table.specs.Table.{Entry, rowSize, tableWords, Promise}
 use Rattle.text.specs.Room.{inRoom}
-use Rattle.reader.specs.Table.{wrong, right}
+use Rattle.cells.specs.Table.{wrong, right}
 use Rattle.reader.specs.Read.{readOf}
 use Rattle.lister.specs.Listed.{Listed}
 use Rattle.printing.specs.Printed.{Printed}

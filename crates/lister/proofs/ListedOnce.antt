@@ -15,8 +15,8 @@ use Rattle.table.proofs.PromiseMet.{promise-met}
 use Rattle.text.specs.Room.{inRoom}
 use Rattle.writer.specs.Names.{namesReply}
 use Rattle.writer.proofs.Answers.{names-right}
-use Rattle.reader.specs.Table.{Read, wrong, right}
-use Rattle.reader.proofs.Readings.{wrong-or-right}
+use Rattle.cells.specs.Table.{Read, wrong, right}
+use Rattle.cells.proofs.Readings.{wrong-or-right}
 use Rattle.lister.specs.Listing.{listingOf}
 use Rattle.lister.specs.Listed.{namesFor, Refused, Rows, Listed, faulty, misnamed, unlisted, over, listed}
 

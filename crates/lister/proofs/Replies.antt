@@ -16,7 +16,7 @@ use Rattle.table.specs.Keys.{Regular}
 use Rattle.table.proofs.Promise.{fault-or-sound, sound-same, table-once, neither-never, accepted-listed, refused-zeros}
 use Rattle.table.proofs.Regular.{at-regular}
 use Rattle.text.specs.Name.{maxNames}
-use Rattle.reader.specs.Table.{Read, wrong, right}
+use Rattle.cells.specs.Table.{Read, wrong, right}
 use Rattle.writer.specs.Names.{namesOf, namesReply}
 use Rattle.writer.proofs.Answers.{names-right}
 use Rattle.lister.specs.Listed.{namesFor, Rows}

@@ -12,7 +12,7 @@ use Rattle.program.proofs.Samples.{legs as legs-words, legs-read}
 use Rattle.table.specs.Rules.{call, cont}
 use Rattle.table.proofs.Samples.{legs}
 use Rattle.table.proofs.TableSamples.{entry, legs-entries, legs-table, legs-accepted, legs-no-room}
-use Rattle.reader.specs.Table.{right}
+use Rattle.cells.specs.Table.{right}
 use Rattle.lister.specs.Listing.{listingOf}
 use Rattle.lister.specs.Listed.{namesFor, Rows, Listed, unlisted, over, listed}
 

@@ -7,7 +7,7 @@ use Rattle.program.specs.Program.{Program}
 use Rattle.table.specs.Table.{Entry, tableWords}
 use Rattle.table.specs.Keys.{Regular}
 use Rattle.steps.specs.Situation.{Setting}
-use Rattle.reader.specs.Table.{right}
+use Rattle.cells.specs.Table.{right}
 use Rattle.lister.specs.Listed.{namesFor, Rows}
 
 -- the rows of an accepted program in the table, and its directory

@@ -3,10 +3,9 @@ use Prim.Native.Nat.{ℕ}
 use mathlib.Core.Path.{_≡_, refl, sym, ap₂, _∙_}
 use mathlib.Core.List.{List}
 use Rattle.program.specs.declared.reply.Reply.{Reply}
-use Rattle.reader.specs.Table.{Read, wrong, right}
-use Rattle.reader.specs.Lines.{Scenario}
+use Rattle.cells.specs.Table.{Read, wrong, right, Scenario}
 use Rattle.reader.specs.Read.{readOf}
-use Rattle.reader.proofs.Readings.{wrong-or-right}
+use Rattle.cells.proofs.Readings.{wrong-or-right}
 use Rattle.lister.proofs.ListedOnce.{listed-unique, listed-met}
 use Rattle.printing.specs.Printed.{refusedLine, tableRoom, listingRoom, shown, PrintedOf, Printed, unread, read}
 

@@ -9,8 +9,7 @@ use Rattle.program.specs.Limits.{maxWords}
 use Rattle.program.specs.Reply.{accepted}
 use Rattle.program.specs.declared.reply.Reply.{Reply}
 use Rattle.text.specs.Name.{nameBytes, maxNames}
-use Rattle.reader.specs.Table.{Read, wrong, right, next}
-use Rattle.reader.specs.Lines.{Scenario}
+use Rattle.cells.specs.Table.{Read, wrong, right, next, Scenario}
 use Rattle.reader.specs.Read.{readOf, inRooms, answerOf, replyOf, wordsIn, namesIn}
 use Rattle.lister.proofs.Replies.{words-there}
 use Rattle.round_trips.proofs.ReadTexts.{text-read}

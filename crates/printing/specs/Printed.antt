@@ -8,8 +8,7 @@ use lib.Dec.{eqb}
 use Rattle.program.specs.Reply.{accepted}
 use Rattle.program.specs.declared.reply.Reply.{Reply}
 use Rattle.text.specs.Decimal.{decimal}
-use Rattle.reader.specs.Table.{wrong, right}
-use Rattle.reader.specs.Lines.{Scenario}
+use Rattle.cells.specs.Table.{wrong, right, Scenario}
 use Rattle.reader.specs.Read.{readOf}
 use Rattle.written_lines.specs.Tokens.{line}
 use Rattle.lister.specs.Listed.{Listed}

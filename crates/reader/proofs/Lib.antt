@@ -1,14 +1,4 @@
--- Laws of the crate that belong to no one function.
-pub mod FieldCuts
-pub mod Progresses
-pub mod Kepts
-pub mod Symbols
-pub mod DeclaredLines
-pub mod AtomLines
-pub mod LineKinds
+-- The laws of a whole text: its lines one after another, its lengths, and what is handed over.
 pub mod TextLines
 pub mod Hands
 pub mod Texts
-pub mod Takes
-pub mod Rows
-pub mod Readings

@@ -15,15 +15,16 @@ use Rattle.text.specs.Line.{upTo, parts, onto, behind, tab, lineFeed}
 use Rattle.text.specs.Name.{nameBytes, maxNames}
 use Rattle.text.specs.Room.{inRoom}
 use Rattle.text.proofs.Cuts.{parts-from, part-within}
-use Rattle.reader.specs.declared.state.Counts.{Counts}
-use Rattle.reader.specs.declared.lined.Lined.{Lined}
-use Rattle.reader.specs.declared.lined.Lined.the-variants.{Fault, More, Last}
-use Rattle.reader.specs.Table.{Table, Read, wrong, right, nothing}
-use Rattle.reader.specs.Lines.{Scenario, Line, more, last, fieldsOf, ending, linesOf, allLines}
-use Rattle.reader.specs.Fields.{between}
-use Rattle.reader.specs.Room.{tableOf}
-use Rattle.reader.specs.Held.{Holds, LinedAs, Limited, FoundAs}
-use Rattle.reader.specs.declared.lines.Found.the-variants.{Fault as FoundFault, Done}
+use Rattle.cells.specs.declared.state.Counts.{Counts}
+use Rattle.declarations.specs.declared.lined.Lined.{Lined}
+use Rattle.declarations.specs.declared.lined.Lined.the-variants.{Fault, More, Last}
+use Rattle.cells.specs.Table.{Table, Read, wrong, right, nothing, Scenario, Line, more, last}
+use Rattle.text_lines.specs.Lines.{fieldsOf, ending, linesOf, allLines}
+use Rattle.cells.specs.Between.{between}
+use Rattle.cells.specs.Room.{tableOf}
+use Rattle.declarations.specs.Held.{Holds, LinedAs, Limited}
+use Rattle.reader.specs.Found.{FoundAs}
+use Rattle.reader.specs.declared.all_lines.Found.the-variants.{Fault as FoundFault, Done}
 
 -- what a line that ends in LF comes to, and then the others
 abbrev pub afterLine : Read Line → ℕ → List ℕ → List (List ℕ) → Read Scenario

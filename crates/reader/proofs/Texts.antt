@@ -13,11 +13,11 @@ use Rattle.program.specs.declared.reply.Reply.{Reply}
 use Rattle.text.specs.Room.{inRoom}
 use Rattle.text.specs.Name.{nameBytes, maxNames}
 use Rattle.text.specs.Line.{parts, lineFeed}
-use Rattle.reader.specs.declared.lines.Found.{Found}
-use Rattle.reader.specs.declared.lines.Found.the-variants.{Fault, Done}
-use Rattle.reader.specs.Table.{Read, wrong, right, next, nothing}
-use Rattle.reader.specs.Lines.{Scenario, allLines}
-use Rattle.reader.specs.Held.{FoundAs, roomed}
+use Rattle.reader.specs.declared.all_lines.Found.{Found}
+use Rattle.reader.specs.declared.all_lines.Found.the-variants.{Fault, Done}
+use Rattle.cells.specs.Table.{Read, wrong, right, next, nothing, Scenario}
+use Rattle.text_lines.specs.Lines.{allLines}
+use Rattle.reader.specs.Found.{FoundAs, roomed}
 use Rattle.reader.specs.Read.{maxBytes, counted, readOf, inRooms, answerOf, replyOf, wordsIn, namesIn}
 use Rattle.reader.proofs.Hands.{front-is}
 

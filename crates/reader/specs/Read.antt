@@ -9,8 +9,8 @@ use Rattle.program.specs.Reply.{tooLong, noRoom, refused, done}
 use Rattle.program.specs.declared.reply.Reply.{Reply}
 use Rattle.text.specs.Room.{inRoom}
 use Rattle.text.specs.Line.{parts, lineFeed}
-use Rattle.reader.specs.Table.{Read, wrong, right, next, nothing}
-use Rattle.reader.specs.Lines.{Scenario, allLines}
+use Rattle.cells.specs.Table.{Read, wrong, right, next, nothing, Scenario}
+use Rattle.text_lines.specs.Lines.{allLines}
 
 -- "At most 40,960 bytes."
 abbrev pub maxBytes : ℕ

@@ -1,13 +1,3 @@
 // From scenario text to an encoded program with names.
-mod atoms;
-mod cells;
-mod declaration;
-mod declare;
-mod fields;
-mod keyword;
-mod lined;
-mod lines;
-mod look;
+mod all_lines;
 pub mod read;
-mod state;
-mod symbol;

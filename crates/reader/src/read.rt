@@ -1,6 +1,6 @@
 // `read`: from a scenario text to words and names in lent room.
-use crate::lines::Found;
-use crate::lines::read_lines;
+use crate::all_lines::Found;
+use crate::all_lines::read_lines;
 use program::limits::MAX_WORDS;
 use program::reply::ACCEPTED;
 use program::reply::NO_ROOM;
@@ -14,7 +14,7 @@ ghost use Rattle.program.specs.Limits.{maxWords};
 ghost use Rattle.text.specs.Name.{nameBytes, maxNames};
 ghost use Rattle.text.specs.Room.{inRoom};
 ghost use Rattle.reader.specs.Read.{readOf, answerOf, replyOf, wordsIn, namesIn};
-ghost use Rattle.reader.specs.Held.{FoundAs, roomed};
+ghost use Rattle.reader.specs.Found.{FoundAs, roomed};
 
 pub const MAX_BYTES: usize = 40960;
 

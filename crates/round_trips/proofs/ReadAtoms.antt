@@ -18,8 +18,8 @@ use Rattle.program.specs.declared.cells.Cell.the-variants.{Opens}
 use Rattle.program.proofs.Taking.{terms-cell, no-terms}
 use Rattle.program.proofs.WordsOfTerms.{function-opens, variable-opens}
 use Rattle.text.specs.Decimal.{decimal}
-use Rattle.reader.specs.Table.{wrong, right, next, Table}
-use Rattle.reader.specs.Cells.{Row, modeOf, lookOf, withSymbol, withVariable, takenAt, complete, cellsOf}
+use Rattle.cells.specs.Table.{wrong, right, next, Table}
+use Rattle.cells.specs.Cells.{Row, modeOf, lookOf, withSymbol, withVariable, takenAt, complete, cellsOf}
 use Rattle.written_lines.specs.Tokens.{symbolToken, argumentToken, atomTokens}
 use Rattle.round_trips.proofs.Tokens.{both-true, signByte, variable-token-is}
 use Rattle.round_trips.proofs.ReadParts.{next-right}

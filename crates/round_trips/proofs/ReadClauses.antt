@@ -16,11 +16,11 @@ use Rattle.program.specs.Atoms.{terms, atoms}
 use Rattle.program.specs.Within.{Each, none, more, NumberedAll, encodeAtoms, encodeClauses, WithinClause}
 use Rattle.program.proofs.Taking.{no-terms}
 use Rattle.program.proofs.AtomWords.{Atoms-read, atoms-read}
-use Rattle.reader.specs.Keyword.{pred, func, clause}
-use Rattle.reader.specs.Table.{right, Table}
-use Rattle.reader.specs.Cells.{Row, noCells, cellsOf}
-use Rattle.reader.specs.Lines.{withClause, clauseLine}
-use Rattle.reader.proofs.DeclaredLines.{open-few}
+use Rattle.text_lines.specs.Keyword.{pred, func, clause}
+use Rattle.cells.specs.Table.{right, Table}
+use Rattle.cells.specs.Cells.{Row, noCells, cellsOf}
+use Rattle.text_lines.specs.Lines.{withClause, clauseLine}
+use Rattle.declarations.proofs.DeclaredLines.{open-few}
 use Rattle.written_lines.specs.Tokens.{symbolToken, argumentToken, atomTokens, atomsTokens, line}
 use Rattle.written_lines.specs.Lines.{declarations, clauseLines}
 use Rattle.round_trips.proofs.Printed.{each-append}

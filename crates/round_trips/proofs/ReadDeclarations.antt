@@ -17,12 +17,12 @@ use Rattle.text.specs.Name.{nameBytes, padded}
 use Rattle.text.specs.Decimal.{decimal}
 use Rattle.text.specs.declared.token.Number.{Number}
 use Rattle.text.specs.declared.token.Number.the-variants.{None, Value}
-use Rattle.reader.specs.Keyword.{pred, func}
-use Rattle.reader.specs.Table.{Read, wrong, right, Table, nothing}
-use Rattle.reader.specs.Declarations.{declaring, fresh, arityOf, symbolOf, two, withSymbol, declared, predLine, funcLine}
-use Rattle.reader.specs.declared.declare.Declared.the-variants.{Fault, Symbol}
-use Rattle.reader.proofs.Symbols.{entry-front}
-use Rattle.reader.proofs.DeclaredLines.{open-few}
+use Rattle.text_lines.specs.Keyword.{pred, func}
+use Rattle.cells.specs.Table.{Read, wrong, right, Table, nothing}
+use Rattle.declarations.specs.Declarations.{declaring, fresh, arityOf, symbolOf, two, withSymbol, declared, predLine, funcLine}
+use Rattle.declarations.specs.declared.declare.Declared.the-variants.{Fault, Symbol}
+use Rattle.declarations.proofs.Symbols.{entry-front}
+use Rattle.declarations.proofs.DeclaredLines.{open-few}
 use Rattle.written_lines.specs.Tokens.{symbolToken, line}
 use Rattle.written_lines.specs.Lines.{declarations, clauseLines}
 use Rattle.round_trips.proofs.Tokens.{both-true, number-decimal}

@@ -16,17 +16,17 @@ use Rattle.text.specs.declared.token.Token.{Token}
 use Rattle.text.specs.declared.token.Token.the-variants.{Wrong, Name, Variable}
 use Rattle.text.specs.declared.token.Number.{Number}
 use Rattle.text.specs.declared.token.Number.the-variants.{None, Value}
-use Rattle.reader.specs.Keyword.{clause, query, kindOf}
-use Rattle.reader.specs.declared.keyword.Kind.{Kind}
-use Rattle.reader.specs.declared.keyword.Kind.the-variants.{Pred, Func, Clause, Query, Other}
-use Rattle.reader.specs.declared.look.Look.{Look}
-use Rattle.reader.specs.declared.look.Look.the-variants.{Fault, Symbol, Variable as Met}
-use Rattle.reader.specs.declared.declare.Declared.{Declared}
-use Rattle.reader.specs.declared.declare.Declared.the-variants.{Fault as DeclaredFault, Symbol as DeclaredSymbol}
-use Rattle.reader.specs.Table.{Read, wrong, right, next, Table, nothing}
-use Rattle.reader.specs.Declarations.{declaring, fresh, arityOf, symbolOf, two, declared, predLine, funcLine}
-use Rattle.reader.specs.Cells.{Row, modeOf, noCells, namedOf, variableAt, startOf, argumentOf, lookOf, takenAt, complete, cellsOf}
-use Rattle.reader.specs.Lines.{Scenario, Line, more, last, withClause, withGoal, clauseLine, queryLine, lineOf, fieldsOf, ending, linesOf, allLines}
+use Rattle.text_lines.specs.Keyword.{clause, query, kindOf}
+use Rattle.text_lines.specs.declared.keyword.Kind.{Kind}
+use Rattle.text_lines.specs.declared.keyword.Kind.the-variants.{Pred, Func, Clause, Query, Other}
+use Rattle.cells.specs.declared.look.Look.{Look}
+use Rattle.cells.specs.declared.look.Look.the-variants.{Fault, Symbol, Variable as Met}
+use Rattle.declarations.specs.declared.declare.Declared.{Declared}
+use Rattle.declarations.specs.declared.declare.Declared.the-variants.{Fault as DeclaredFault, Symbol as DeclaredSymbol}
+use Rattle.cells.specs.Table.{Read, wrong, right, next, Table, nothing, Scenario, Line, more, last}
+use Rattle.declarations.specs.Declarations.{declaring, fresh, arityOf, symbolOf, two, declared, predLine, funcLine}
+use Rattle.cells.specs.Cells.{Row, modeOf, noCells, namedOf, variableAt, startOf, argumentOf, lookOf, takenAt, complete, cellsOf}
+use Rattle.text_lines.specs.Lines.{withClause, withGoal, clauseLine, queryLine, lineOf, fieldsOf, ending, linesOf, allLines}
 use Rattle.reader.specs.Read.{maxBytes, counted, readOf, inRooms, answerOf, replyOf}
 use Rattle.reader.proofs.TextLines.{afterLine, linesOf-more}
 

@@ -11,7 +11,7 @@ use borrow.Author.Tests.{ltb-true, ltb-false}
 use Rattle.program.specs.Limits.{anyMode, groundMode}
 use Rattle.program.specs.Atoms.{meet}
 use Rattle.program.specs.Within.{Each, none, more}
-use Rattle.reader.specs.Cells.{Row, modeOf, noCells, withVariable}
+use Rattle.cells.specs.Cells.{Row, modeOf, noCells, withVariable}
 use Rattle.round_trips.proofs.Printed.{each-append}
 
 -- a mode for each variable met, and in a clause none is ground

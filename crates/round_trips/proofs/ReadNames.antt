@@ -12,10 +12,10 @@ use Rattle.text.specs.Token.{isName}
 use Rattle.text.specs.Name.{nameBytes, padded, entry, seek}
 use Rattle.text.proofs.Names.{same-refl}
 use Rattle.text.proofs.Rooms.{length-inRoom}
-use Rattle.reader.specs.Table.{right}
-use Rattle.reader.specs.Declarations.{fresh}
-use Rattle.reader.proofs.Kepts.{seek-alike}
-use Rattle.reader.proofs.Symbols.{entry-front, entry-last}
+use Rattle.cells.specs.Table.{right}
+use Rattle.declarations.specs.Declarations.{fresh}
+use Rattle.cells.proofs.Kepts.{seek-alike}
+use Rattle.declarations.proofs.Symbols.{entry-front, entry-last}
 use Rattle.writer.specs.Names.{isEntry, firstOf, isSound, eachName, namesOf}
 use Rattle.written_lines.specs.Tokens.{nameIn, symbolToken}
 use Rattle.round_trips.proofs.Tokens.{both-true, name-in-padded}

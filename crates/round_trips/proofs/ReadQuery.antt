@@ -19,10 +19,10 @@ use Rattle.program.specs.Within.{after, modesOf, encodeClauses, encode, WithinL
 use Rattle.program.proofs.Words.{next-right as part-right}
 use Rattle.program.proofs.AtomWords.{Atom-read, atom-read}
 use Rattle.program.proofs.Modes.{modes-of-mask, mask-below}
-use Rattle.reader.specs.Keyword.{query}
-use Rattle.reader.specs.Table.{right, Table}
-use Rattle.reader.specs.Cells.{Row, noCells, cellsOf}
-use Rattle.reader.specs.Lines.{Scenario, withGoal, queryLine}
+use Rattle.text_lines.specs.Keyword.{query}
+use Rattle.cells.specs.Table.{right, Table, Scenario}
+use Rattle.cells.specs.Cells.{Row, noCells, cellsOf}
+use Rattle.text_lines.specs.Lines.{withGoal, queryLine}
 use Rattle.written_lines.specs.Tokens.{atomTokens, line}
 use Rattle.writer.specs.Write.{textOf}
 use Rattle.round_trips.proofs.ReadParts.{next-right, first-right}

@@ -9,14 +9,14 @@ use borrow.Author.Tests.{ltb-false}
 use Rattle.program.specs.Limits.{maxWords}
 use Rattle.program.specs.Reply.{tooLong}
 use Rattle.text.specs.Line.{parts, tab, lineFeed}
-use Rattle.reader.specs.Keyword.{kindOf}
-use Rattle.reader.specs.Table.{Read, wrong, right, Table, nothing}
-use Rattle.reader.specs.Declarations.{predLine, funcLine}
-use Rattle.reader.specs.Lines.{Scenario, Line, more, last, clauseLine, queryLine, lineOf, fieldsOf, ending, linesOf, allLines}
+use Rattle.text_lines.specs.Keyword.{kindOf}
+use Rattle.cells.specs.Table.{Read, wrong, right, Table, nothing, Scenario, Line, more, last}
+use Rattle.declarations.specs.Declarations.{predLine, funcLine}
+use Rattle.text_lines.specs.Lines.{clauseLine, queryLine, lineOf, fieldsOf, ending, linesOf, allLines}
 use Rattle.reader.specs.Read.{maxBytes, counted, readOf}
-use Rattle.reader.specs.declared.keyword.Kind.{Kind}
-use Rattle.reader.specs.declared.keyword.Kind.the-variants.{Pred, Func, Clause, Query, Other}
-use Rattle.reader.proofs.LineKinds.{KindIs, kind-is}
+use Rattle.text_lines.specs.declared.keyword.Kind.{Kind}
+use Rattle.text_lines.specs.declared.keyword.Kind.the-variants.{Pred, Func, Clause, Query, Other}
+use Rattle.text_lines.proofs.LineKinds.{KindIs, kind-is}
 use Rattle.reader.proofs.TextLines.{afterLine, linesOf-more}
 use Rattle.written_lines.specs.Tokens.{line}
 use Rattle.round_trips.proofs.ReadLines.{behindEach, parts-together, line-together}

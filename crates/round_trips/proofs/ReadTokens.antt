@@ -16,9 +16,9 @@ use Rattle.text.specs.Name.{padded, seek}
 use Rattle.text.specs.Decimal.{decimal}
 use Rattle.text.specs.declared.token.Token.{Token}
 use Rattle.text.specs.declared.token.Token.the-variants.{Wrong, Name, Variable}
-use Rattle.reader.specs.declared.look.Look.the-variants.{Fault, Symbol, Variable as Met}
-use Rattle.reader.specs.Table.{right, Table}
-use Rattle.reader.specs.Cells.{Row, modeOf, namedOf, variableAt, startOf, argumentOf, lookOf, withSymbol, withVariable, takenAt}
+use Rattle.cells.specs.declared.look.Look.the-variants.{Fault, Symbol, Variable as Met}
+use Rattle.cells.specs.Table.{right, Table}
+use Rattle.cells.specs.Cells.{Row, modeOf, namedOf, variableAt, startOf, argumentOf, lookOf, withSymbol, withVariable, takenAt}
 use Rattle.written_lines.specs.Tokens.{nameIn, symbolToken}
 use Rattle.round_trips.proofs.Tokens.{signByte, Variable-token, variable-token, name-token, name-in-padded, seek-found}
 

@@ -18,7 +18,7 @@ use Rattle.text.specs.declared.token.Token.the-variants.{Wrong, Name, Variable}
 use Rattle.text.specs.declared.token.Number.{Number}
 use Rattle.text.specs.declared.token.Number.the-variants.{None, Value}
 use Rattle.text.proofs.Names.{same-equal}
-use Rattle.reader.specs.Cells.{modeOf}
+use Rattle.cells.specs.Cells.{modeOf}
 use Rattle.written_lines.specs.Tokens.{nameIn, variableToken}
 
 pub both-true : (a b : Bool) → a && b ≡ true → (a ≡ true) × (b ≡ true)

@@ -12,9 +12,8 @@ use Rattle.program.specs.Program.{Program}
 use Rattle.program.specs.Faults.{Found, fault, sound, faults}
 use Rattle.program.specs.Within.{after, modesOf, encodeClauses, encode, WithinLimits}
 use Rattle.program.proofs.ProgramWords.{sound-encoded, sound-within}
-use Rattle.reader.specs.Keyword.{pred, func, query}
-use Rattle.reader.specs.Table.{right, nothing}
-use Rattle.reader.specs.Lines.{Scenario}
+use Rattle.text_lines.specs.Keyword.{pred, func, query}
+use Rattle.cells.specs.Table.{right, nothing, Scenario}
 use Rattle.reader.specs.Read.{maxBytes, readOf}
 use Rattle.writer.specs.Names.{namesOf}
 use Rattle.written_lines.specs.Tokens.{atomTokens, line}

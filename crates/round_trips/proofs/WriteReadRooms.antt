@@ -8,7 +8,7 @@ use lib.Dec.{ltb}
 use borrow.Author.Tests.{le-ltb, ltb-false}
 use Rattle.program.specs.Reply.{accepted, noRoom, done}
 use Rattle.text.specs.Room.{inRoom}
-use Rattle.reader.specs.Table.{right}
+use Rattle.cells.specs.Table.{right}
 use Rattle.reader.specs.Read.{maxBytes, answerOf, replyOf, wordsIn, namesIn}
 use Rattle.reader.proofs.Hands.{front-is}
 use Rattle.writer.specs.Write as writes

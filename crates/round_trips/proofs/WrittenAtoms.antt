@@ -15,10 +15,10 @@ use Rattle.program.specs.Limits.{maxBody}
 use Rattle.program.specs.Reading.{pick}
 use Rattle.program.specs.Atoms.{meet}
 use Rattle.program.specs.Within.{after, afters, Numbered, Numbereds}
-use Rattle.reader.specs.declared.look.Look.{Look}
-use Rattle.reader.specs.declared.look.Look.the-variants.{Symbol, Variable as Met}
-use Rattle.reader.specs.Table.{right, Table}
-use Rattle.reader.specs.Cells.{Row, modeOf, lookOf, takenAt, withSymbol, withVariable, complete, cellsOf}
+use Rattle.cells.specs.declared.look.Look.{Look}
+use Rattle.cells.specs.declared.look.Look.the-variants.{Symbol, Variable as Met}
+use Rattle.cells.specs.Table.{right, Table}
+use Rattle.cells.specs.Cells.{Row, modeOf, lookOf, takenAt, withSymbol, withVariable, complete, cellsOf}
 use Rattle.written_lines.specs.Tokens.{symbolToken, variableToken, argumentToken, atomTokens}
 use Rattle.round_trips.proofs.ReadNames.{Sound-names}
 use Rattle.round_trips.proofs.WrittenCells.{Mode, modesUpTo, declaredTable, rowAt, variable-read, start-symbol, argument-symbol, argument-variable}

@@ -19,9 +19,9 @@ use Rattle.text.specs.Token.{tokenOf}
 use Rattle.text.specs.Name.{padded, seek}
 use Rattle.text.specs.declared.token.Token.the-variants.{Variable}
 use Rattle.text.proofs.Tokens.{tokenOf-name}
-use Rattle.reader.specs.declared.look.Look.the-variants.{Fault, Symbol, Variable as Met}
-use Rattle.reader.specs.Table.{Table}
-use Rattle.reader.specs.Cells.{Row, modeOf, lookOf}
+use Rattle.cells.specs.declared.look.Look.the-variants.{Fault, Symbol, Variable as Met}
+use Rattle.cells.specs.Table.{Table}
+use Rattle.cells.specs.Cells.{Row, modeOf, lookOf}
 use Rattle.written_lines.specs.Tokens.{symbolToken, variableToken}
 use Rattle.round_trips.proofs.PrintedNumbers.{number-printed}
 use Rattle.round_trips.proofs.ReadNames.{Sound-names}

@@ -15,9 +15,9 @@ use Rattle.program.specs.Limits.{maxDeclared, maxBody}
 use Rattle.program.specs.Program.{Clause}
 use Rattle.program.specs.Within.{Each, none, more, after, NumberedAll, encodeAtoms, encodeClauses, WithinClause}
 use Rattle.program.proofs.AtomWords.{afterAll}
-use Rattle.reader.specs.Keyword.{clause}
-use Rattle.reader.specs.Table.{right}
-use Rattle.reader.specs.Lines.{more as goesOn, Scenario, fieldsOf}
+use Rattle.text_lines.specs.Keyword.{clause}
+use Rattle.cells.specs.Table.{right, more as goesOn, Scenario}
+use Rattle.text_lines.specs.Lines.{fieldsOf}
 use Rattle.written_lines.specs.Tokens.{atomsTokens, line}
 use Rattle.written_lines.specs.Lines.{clauseLines}
 use Rattle.round_trips.proofs.Printed.{name-printed}

@@ -12,11 +12,11 @@ use Rattle.program.specs.Limits.{minPredicates, maxDeclared, maxArity}
 use Rattle.program.specs.Within.{Each, none, more}
 use Rattle.text.specs.Name.{nameBytes, padded, seek}
 use Rattle.text.specs.Decimal.{decimal}
-use Rattle.reader.specs.Keyword.{pred, func}
-use Rattle.reader.specs.Table.{right, Table, nothing}
-use Rattle.reader.specs.Declarations.{symbolOf}
-use Rattle.reader.specs.declared.declare.Declared.the-variants.{Symbol}
-use Rattle.reader.specs.Lines.{more as goesOn, Scenario, fieldsOf}
+use Rattle.text_lines.specs.Keyword.{pred, func}
+use Rattle.cells.specs.Table.{right, Table, nothing, more as goesOn, Scenario}
+use Rattle.declarations.specs.Declarations.{symbolOf}
+use Rattle.declarations.specs.declared.declare.Declared.the-variants.{Symbol}
+use Rattle.text_lines.specs.Lines.{fieldsOf}
 use Rattle.writer.specs.Names.{firstOf}
 use Rattle.written_lines.specs.Tokens.{symbolToken, line}
 use Rattle.written_lines.specs.Lines.{declarations}

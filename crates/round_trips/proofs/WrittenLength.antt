@@ -10,7 +10,7 @@ use Rattle.program.specs.Limits.{maxArity}
 use Rattle.program.specs.Program.{Clause, Program}
 use Rattle.program.specs.Within.{Each, none, more, after, modesOf, encodeAtoms, encodeClauses, encode, WithinClause, WithinLimits}
 use Rattle.text.specs.Decimal.{decimal}
-use Rattle.reader.specs.Keyword.{pred, func, clause, query}
+use Rattle.text_lines.specs.Keyword.{pred, func, clause, query}
 use Rattle.reader.specs.Read.{maxBytes}
 use Rattle.written_lines.specs.Tokens.{symbolToken, atomTokens, atomsTokens, behindTabs, line}
 use Rattle.written_lines.specs.Lines.{declarations, clauseLines}

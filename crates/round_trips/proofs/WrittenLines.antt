@@ -7,9 +7,9 @@ use lib.ListN.{length}
 use lib.Dec.{eqb}
 use Rattle.program.specs.Within.{Each}
 use Rattle.text.specs.Line.{lineFeed, tab, onto, parts}
-use Rattle.reader.specs.Table.{right, Table}
+use Rattle.cells.specs.Table.{right, Table, more, last, Scenario}
 use Rattle.reader.proofs.TextLines.{linesOf-more}
-use Rattle.reader.specs.Lines.{more, last, Scenario, fieldsOf, allLines}
+use Rattle.text_lines.specs.Lines.{fieldsOf, allLines}
 use Rattle.written_lines.specs.Tokens.{behindTabs, line}
 use Rattle.round_trips.proofs.Printed.{Bytes, Printed, fields-cut, line-cut}
 

@@ -13,9 +13,9 @@ use Rattle.program.specs.Reply.{tooSoon, follows, badName}
 use Rattle.text.specs.Token.{isName}
 use Rattle.text.specs.Name.{nameBytes, padded, entry, same, seek}
 use Rattle.text.proofs.Names.{same-equal, same-refl}
-use Rattle.reader.specs.Table.{right}
-use Rattle.reader.proofs.Kepts.{seek-alike}
-use Rattle.reader.proofs.Symbols.{entry-front}
+use Rattle.cells.specs.Table.{right}
+use Rattle.cells.proofs.Kepts.{seek-alike}
+use Rattle.declarations.proofs.Symbols.{entry-front}
 use Rattle.written_lines.specs.Tokens.{nameIn}
 use Rattle.writer.specs.Names.{isEntry, firstOf, isSound, eachName, namesOf}
 use Rattle.round_trips.proofs.Tokens.{both-true}

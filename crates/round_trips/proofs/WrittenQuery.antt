@@ -12,9 +12,9 @@ use Rattle.terms.specs.Term.{Term}
 use Rattle.terms.specs.Cells.{enc, Atom}
 use Rattle.program.specs.Within.{Each, none, more, after, Numbered, modesOf}
 use Rattle.program.proofs.Modes.{modes-each, modes-length}
-use Rattle.reader.specs.Keyword.{query}
-use Rattle.reader.specs.Table.{right}
-use Rattle.reader.specs.Lines.{last, Scenario, fieldsOf}
+use Rattle.text_lines.specs.Keyword.{query}
+use Rattle.cells.specs.Table.{right, last, Scenario}
+use Rattle.text_lines.specs.Lines.{fieldsOf}
 use Rattle.written_lines.specs.Tokens.{atomTokens, line}
 use Rattle.round_trips.proofs.Printed.{name-printed}
 use Rattle.round_trips.proofs.ReadNames.{Sound-names}

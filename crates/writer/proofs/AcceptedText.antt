@@ -9,7 +9,7 @@ use Rattle.program.specs.Within.{after, modesOf}
 use Rattle.directory.specs.Said.{said, Accepted}
 use Rattle.directory.specs.From.{Clauses-from, Goal-from}
 use Rattle.directory.proofs.AcceptedWords.{said-within, predicate-count, function-count, clause-count, predicates-are, functions-within, functions-are, clauses-within, clauses-cut, goalPart}
-use Rattle.reader.specs.Keyword.{pred, func, query}
+use Rattle.text_lines.specs.Keyword.{pred, func, query}
 use Rattle.written_lines.specs.Tokens.{atomTokens, line}
 use Rattle.written_lines.specs.Lines.{declarations, clauseLines}
 use Rattle.written_lines.specs.Walked.{Named}

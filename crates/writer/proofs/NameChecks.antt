@@ -13,7 +13,7 @@ use Rattle.program.specs.Reply.{badName}
 use Rattle.text.specs.Line.{upTo}
 use Rattle.text.specs.Name.{nameBytes, entry, markOf, Marked}
 use Rattle.text.proofs.Cuts.{upTo-take}
-use Rattle.reader.specs.Table.{wrong, right}
+use Rattle.cells.specs.Table.{wrong, right}
 use Rattle.written_lines.specs.Tokens.{nameIn}
 use Rattle.writer.specs.Names.{firstOf, isSound, eachName}
 

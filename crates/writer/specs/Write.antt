@@ -11,8 +11,8 @@ use Rattle.program.specs.Faults.{Found, fault, sound, faults}
 use Rattle.program.specs.Reply.{noRoom, refused, done}
 use Rattle.program.specs.declared.reply.Reply.{Reply}
 use Rattle.text.specs.Room.{inRoom}
-use Rattle.reader.specs.Keyword.{pred, func, query}
-use Rattle.reader.specs.Table.{Read, wrong, right, next}
+use Rattle.text_lines.specs.Keyword.{pred, func, query}
+use Rattle.cells.specs.Table.{Read, wrong, right, next}
 use Rattle.written_lines.specs.Tokens.{atomTokens, line}
 use Rattle.written_lines.specs.Lines.{declarations, clauseLines}
 use Rattle.writer.specs.Names.{namesOf}

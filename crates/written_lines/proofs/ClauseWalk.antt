@@ -12,7 +12,7 @@ use Rattle.program.proofs.Nths.{below-nth}
 use Rattle.directory.specs.From.{Atom-from, Atoms-from, Clause-from, Clauses-from}
 use Rattle.directory.proofs.Cuts.{word-behind, nth-drop, nth-take, each-nth}
 use Rattle.directory.proofs.ClauseWalk.{body-length}
-use Rattle.reader.specs.Keyword.{clause}
+use Rattle.text_lines.specs.Keyword.{clause}
 use Rattle.written_lines.specs.Tokens.{atomTokens, atomsTokens, behindTabs, line}
 use Rattle.written_lines.specs.Lines.{clauseLines}
 use Rattle.written_lines.proofs.LineTexts.{tabs-append}

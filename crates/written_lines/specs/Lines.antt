@@ -3,7 +3,7 @@ use Prim.Native.Nat.{ℕ, suc}
 use mathlib.Core.List.{List, [], _∷_, _++_}
 use Rattle.program.specs.Program.{Clause}
 use Rattle.text.specs.Decimal.{decimal}
-use Rattle.reader.specs.Keyword.{clause}
+use Rattle.text_lines.specs.Keyword.{clause}
 use Rattle.written_lines.specs.Tokens.{symbolToken, atomsTokens, line}
 
 -- the declarations of one kind, whose first name has number i

@@ -21,7 +21,7 @@ ghost use Rattle.directory.specs.From.{Atom-from, Clause-from, Clauses-from, Go
 ghost use Rattle.text.specs.Decimal.{decimal};
 ghost use Rattle.text.specs.Name.{nameBytes, maxNames};
 ghost use Rattle.text.specs.Put.{Put};
-ghost use Rattle.reader.specs.Keyword.{clause, query};
+ghost use Rattle.text_lines.specs.Keyword.{clause, query};
 ghost use Rattle.written_lines.specs.Tokens.{symbolToken, atomTokens, atomsTokens, line};
 ghost use Rattle.written_lines.specs.Lines.{declarations, clauseLines};
 ghost use Rattle.written_lines.specs.Walked.{NameAt, Named, Written};

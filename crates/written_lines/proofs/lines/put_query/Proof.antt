@@ -9,8 +9,8 @@ use Rattle.terms.specs.Cells.{enc}
 use Rattle.directory.proofs.GoalWalk.{goal-atom-from}
 use Rattle.text.specs.Put.{Put}
 use Rattle.text.proofs.Puts.{put-append, put-length}
+use Rattle.text_lines.specs.Keyword.{query}
 use Rattle.written_lines.specs.Tokens.{atomTokens, line}
-use Rattle.reader.specs.Keyword.{query}
 use Rattle.written_lines.proofs.AtomWalk.{query-count, query-within, query-modes}
 use Rattle.written_lines.proofs.lines.put_query.Statement.{statement}
 use Rattle.written_lines.proofs.lines.put_query.Tie as tie

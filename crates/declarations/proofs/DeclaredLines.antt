@@ -1,0 +1,79 @@
+-- Declaration lines: the text that stands in the room is the text with the declaration.
+use Prim.Native.Nat.{ℕ, suc, _+_, _*_, _≤_, _<_}
+use mathlib.Core.Path.{_≡_, refl, sym, ap, _∙_}
+use mathlib.Core.List.{List, [], _∷_, _++_}
+use native.Mathlib.Omega.{arith}
+use mathlib.Core.Bool.{Bool, true, false, _&&_}
+use lib.Dec.{ltb}
+use borrow.Author.Tests.{ltb-true}
+use lib.ListN.{length, set, length-append}
+use Rattle.program.specs.Limits.{maxWords, maxDeclared}
+use Rattle.text.specs.Room.{inRoom}
+use Rattle.text.specs.Name.{maxNames, padded}
+use Rattle.text.proofs.Rooms.{set-behind}
+use Rattle.cells.specs.declared.state.Counts.{Counts}
+use Rattle.declarations.specs.declared.declare.Declared.{Declared}
+use Rattle.declarations.specs.declared.declare.Declared.the-variants.{Fault, Symbol}
+use Rattle.declarations.specs.declared.lined.Lined.the-variants.{Fault as LinedFault, More}
+use Rattle.program.specs.Reply.{illFormed}
+use Rattle.cells.specs.Table.{Table, Read, wrong}
+use Rattle.declarations.specs.Declarations.{two, declared, predLine, funcLine}
+use Rattle.cells.specs.Room.{Roomy, tableOf}
+use Rattle.declarations.specs.Added.{Added}
+use Rattle.declarations.specs.Held.{Holds, LinedAs, moreOf}
+use Rattle.declarations.proofs.Symbols.{kept-more}
+
+-- a word behind those that stand behind room for three counts
+pub word-last : (ws words : List ℕ) (place w : ℕ) → words ≡ inRoom maxWords (0 ∷ 0 ∷ 0 ∷ ws) → place ≡ 3 + length ws
+    → set words place w ≡ inRoom maxWords (0 ∷ 0 ∷ 0 ∷ ws ++ w ∷ [])
+word-last ws words place w e f =
+    let n : place ≡ length (0 ∷ 0 ∷ 0 ∷ ws) = omega arith in
+    rw (n, e) (set-behind maxWords (0 ∷ 0 ∷ 0 ∷ ws) w)
+
+module _ (ns ws : List ℕ) (c c′ : Counts) (names marks arities words names′ marks′ arities′ words′ : List ℕ) (name : List ℕ) (n : ℕ)
+    (room : Roomy c names marks arities) (holds : Holds ns ws c names marks arities words)
+    (number : n ≡ c .predicates + c .functions) (more : c′ .predicates + c′ .functions ≡ n + 1) (few : n < maxNames)
+    (none : c .clauses ≡ 0) (same : c′ .clauses ≡ c .clauses) (behind : c′ .words ≡ c .words + 1) where
+  holds-more : (arity : ℕ) → Added name arity n (c .words) names marks arities words names′ marks′ arities′ words′
+      → Holds (ns ++ padded name) (ws ++ arity ∷ []) c′ names′ marks′ arities′ words′
+  holds-more arity add =
+      let exact : length ws ≡ n = holds .declared none ∙ sym number in
+      let size = length-append ws (arity ∷ []) in
+      record {
+        kept = kept-more ns ws c c′ names marks arities words names′ marks′ arities′ words′ name arity n (c .words) room (holds .kept) add number more few exact;
+        word-room = add .word ∙ word-last ws words (c .words) arity (holds .word-room) (holds .place);
+        place = omega (arith, size, holds .place);
+        enough = omega (arith, size);
+        declared = λ e. omega (arith, size);
+      }
+
+  pub lined-symbol : (d : Declared) (arity : ℕ) → d ≡ Symbol arity → Added name arity n (c .words) names marks arities words names′ marks′ arities′ words′
+      → LinedAs names′ marks′ arities′ words′ (More c′) (moreOf (declared (tableOf c ns ws) (c′ .predicates) (c′ .functions) name d))
+  lined-symbol d arity e add =
+      rw e (c′, refl, (λ i. record { predicates = c′ .predicates; functions = c′ .functions; clauses = sym same i; names = ns ++ padded name; words = ws ++ arity ∷ [] }), holds-more arity add)
+
+pub lined-fault : (ns ws : List ℕ) (c c′ : Counts) (names marks arities words name : List ℕ) (d : Declared) (number place : ℕ) → d ≡ Fault number place
+    → LinedAs names marks arities words (LinedFault number place) (moreOf (declared (tableOf c ns ws) (c′ .predicates) (c′ .functions) name d))
+lined-fault ns ws c c′ names marks arities words name d number place e = rw e
+
+-- not exactly three fields
+pub pred-wrong : (t : Table) (at : ℕ) (ss : List (List ℕ)) → ((place : ℕ) (f : List ℕ → List ℕ → Read Table) → two place ss f ≡ wrong illFormed place)
+    → predLine t at ss ≡ wrong illFormed at
+pred-wrong t at ss w = w at _
+
+pub func-wrong : (t : Table) (at : ℕ) (ss : List (List ℕ)) → ((place : ℕ) (f : List ℕ → List ℕ → Read Table) → two place ss f ≡ wrong illFormed place)
+    → funcLine t at ss ≡ wrong illFormed at
+func-wrong t at ss w = w at _
+
+-- a line's answer, by what its table comes to
+pub lined-wrong : (names marks arities words : List ℕ) (o : Read Table) {number place : ℕ} → o ≡ wrong number place
+    → LinedAs names marks arities words (LinedFault number place) (moreOf o)
+lined-wrong names marks arities words o e = rw e
+
+-- there is a predicate, and one more of the kind may come
+pub open-few : (predicates count : ℕ) → ltb 0 predicates && ltb count maxDeclared ≡ true → (0 < predicates) × (count < maxDeclared)
+open-few predicates count e = go (ltb 0 predicates) refl e
+  where
+    go : (t : Bool) → ltb 0 predicates ≡ t → t && ltb count maxDeclared ≡ true → (0 < predicates) × (count < maxDeclared)
+    go true f e = (ltb-true 0 predicates f, ltb-true count maxDeclared e)
+    go false f e = absurd (let z : _≡_ {A = ℕ} 0 1 = cc in omega arith)
