@@ -46,7 +46,7 @@ fn accepted(words: &[u16], table: &mut [u16]) -> Reply
 {
     let mut dir = [0u16; 9550];
     let mut buckets = [0u16; 4096];
-    let mut heads = [0u16; 6144];
+    let mut heads = [0u16; 3075];
     let mut seen = [0u16; 4096];
     let mut answers = [0u16; 4096];
     let mut found = [0u16; 4096];

@@ -175,7 +175,7 @@ module _ {words dir table : List ℕ} {r : ℕ} (w : Stands words dir table r) (
   few-bodies : {k i : ℕ} {c : Clause} {A : Term} → Nth (w .p .clauses) k c → Nth (c .body) i A → bodyIndex (w .p) k i < 1024
   few-bodies hc hA = body-few (w .setting) hc hA
 
-  pub call-shape : slot < 2048 → ShapeAsked words dir slot
+  pub call-shape : slot < 1025 → ShapeAsked words dir slot
   call-shape l = at (w .row) (w .regular) (is ∙ w .slot)
     where
       at : (row : Row ℕ) → Regular (w .p) row → slot ≡ slotOf (w .p) row → ShapeAsked words dir slot
@@ -183,15 +183,15 @@ module _ {words dir table : List ℕ} {r : ℕ} (w : Stands words dir table r) (
       at _ (regular-cont hc hA within small) e = absurd (omega arith)
       at _ (regular-solution hs within small) e = absurd (omega arith)
 
-  pub solution-shape : 4096 ≤ slot → ShapeAsked words dir (slot - 4096)
+  pub solution-shape : 2050 ≤ slot → ShapeAsked words dir (slot - 2050)
   solution-shape l = at (w .row) (w .regular) (is ∙ w .slot)
     where
-      at : (row : Row ℕ) → Regular (w .p) row → slot ≡ slotOf (w .p) row → ShapeAsked words dir (slot - 4096)
+      at : (row : Row ℕ) → Regular (w .p) row → slot ≡ slotOf (w .p) row → ShapeAsked words dir (slot - 2050)
       at _ (regular-call hs within small) e = absurd (omega (arith, few-shapes hs))
       at _ (regular-cont hc hA within small) e = absurd (omega (arith, few-bodies hc hA))
-      at _ (regular-solution {s = n} {S = S} hs within small) e = let f : slot - 4096 ≡ n = omega arith in record { p = w .p; setting = w .setting; S = S; nth-shape = rw f hs }
+      at _ (regular-solution {s = n} {S = S} hs within small) e = let f : slot - 2050 ≡ n = omega arith in record { p = w .p; setting = w .setting; S = S; nth-shape = rw f hs }
 
-  pub call-concerns : (set : List ℕ) (q : ℕ) → ((a : ShapeAsked words dir slot) → q ≡ predicateOf (a .S)) → slot < 2048 → HeadsNoted (w .p) set → (k : ℕ)
+  pub call-concerns : (set : List ℕ) (q : ℕ) → ((a : ShapeAsked words dir slot) → q ≡ predicateOf (a .S)) → slot < 1025 → HeadsNoted (w .p) set → (k : ℕ)
       → Concerns (w .p) k (w .row) → Has (getD set q 0) k
   call-concerns set q named l noted k h = at (w .row) (is ∙ w .slot) (w .regular) h
     where
@@ -202,7 +202,7 @@ module _ {words dir table : List ℕ} {r : ℕ} (w : Stands words dir table r) (
       at _ e (regular-cont hc hA within small) by-cont = absurd (omega arith)
       at _ e g (by-solution hc hA hs same) = absurd (omega arith)
 
-  pub solution-concerns : (set : List ℕ) (q : ℕ) → ((a : ShapeAsked words dir (slot - 4096)) → q ≡ predicateOf (a .S)) → 4096 ≤ slot → BodiesNoted (w .p) set → (k : ℕ)
+  pub solution-concerns : (set : List ℕ) (q : ℕ) → ((a : ShapeAsked words dir (slot - 2050)) → q ≡ predicateOf (a .S)) → 2050 ≤ slot → BodiesNoted (w .p) set → (k : ℕ)
       → Concerns (w .p) k (w .row) → Has (getD set q 0) k
   solution-concerns set q named l noted k h = at (w .row) (is ∙ w .slot) (w .regular) h
     where
@@ -210,11 +210,11 @@ module _ {words dir table : List ℕ} {r : ℕ} (w : Stands words dir table r) (
       at _ e g (by-call hc hs same) = absurd (omega (arith, few-shapes hs))
       at _ e (regular-cont hc hA within small) by-cont = absurd (omega (arith, few-bodies hc hA))
       at _ e g (by-solution {i = i} {s = n} {c = c} {A = A} {S = S} hc hA hs same) =
-          let d : slot - 4096 ≡ n = omega arith in
+          let d : slot - 2050 ≡ n = omega arith in
           let f : q ≡ predicateOf A = named (record { p = w .p; setting = w .setting; S = S; nth-shape = rw d hs }) ∙ sym same in
           rw f (noted k i c A hc hA)
 
-  pub cont-concerns : (k′ : ℕ) → ((b : BodyOf (w .p) (slot - 2048)) → k′ ≡ b .k) → 2048 ≤ slot → slot < 4096 → (k : ℕ) → Concerns (w .p) k (w .row) → (k′ ≡ k) × (k < 64)
+  pub cont-concerns : (k′ : ℕ) → ((b : BodyOf (w .p) (slot - 1025)) → k′ ≡ b .k) → 1025 ≤ slot → slot < 2050 → (k : ℕ) → Concerns (w .p) k (w .row) → (k′ ≡ k) × (k < 64)
   cont-concerns k′ named l l′ k h = at (w .row) (is ∙ w .slot) (w .regular) h
     where
       at : (row : Row ℕ) → slot ≡ slotOf (w .p) row → Regular (w .p) row → Concerns (w .p) k row → (k′ ≡ k) × (k < 64)

@@ -10,7 +10,7 @@ rowSize = 5
 
 -- a slot stands for what rows are about: a kind with a shape, or a clause and place
 abbrev pub slots : ℕ
-slots = 6144
+slots = 3075
 
 abbrev pub masks : ℕ
 masks = 65536

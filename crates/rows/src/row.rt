@@ -10,7 +10,7 @@ use terms::walk::wide;
 
 pub const ROW_SIZE: usize = 5;
 
-pub const SLOTS: usize = 6144;
+pub const SLOTS: usize = 3075;
 
 pub const BUCKETS: usize = 4096;
 

@@ -14,9 +14,9 @@ ghost use Rattle.steps.specs.Situation.{Place};
 ghost use Rattle.steps.specs.Steps.{RowsIn, Writable, Emitted, Stepped};
 
 // Where the slots of cont rows and of solution rows begin; those of call rows begin at 0.
-pub const CONTS: usize = 2048;
+pub const CONTS: usize = 1025;
 
-pub const SOLUTIONS: usize = 4096;
+pub const SOLUTIONS: usize = 2050;
 
 // A round: its number, how many rows there were before the last round and before this one, and the room in rows.
 pub struct Round {

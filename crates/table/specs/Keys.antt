@@ -13,10 +13,10 @@ use Rattle.table.specs.Table.{mask}
 
 -- the slots of calls stand below these of conts, and these below those of solutions
 abbrev pub firstCont : ℕ
-firstCont = 2048
+firstCont = 1025
 
 abbrev pub firstSolution : ℕ
-firstSolution = 4096
+firstSolution = 2050
 
 -- masks are below this: "v is at most 15"
 abbrev pub masks : ℕ

@@ -12,8 +12,6 @@ ghost use Prim.Native.Nat.{_≤_};
 
 const HEAD: usize = 6;
 
-const DOT: u8 = 46;
-
 fn at_most(n: usize, room: usize) -> usize
     ensures { λ r. ⌜ r ≤ room ⌝ }
 {
