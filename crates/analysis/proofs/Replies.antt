@@ -1,4 +1,4 @@
--- The replies of the analysis: what the scan's reply says, the room, and zeros behind the rows.
+-- The replies of the analysis: what the scan's reply says, the directory, the room, and zeros behind the rows.
 use Prim.Native.Nat.{ℕ, _-_, _*_, _/_, _≤_, _<_}
 use native.Mathlib.Omega.{arith}
 use native.Mathlib.Nat.{min-le-left, min-le-right, le-refl}
@@ -12,7 +12,9 @@ use Rattle.program.specs.Program.{Program}
 use Rattle.program.specs.Faults.{Found, fault, sound, faults, replyOf}
 use Rattle.program.specs.Reply.{done}
 use Rattle.program.specs.declared.reply.Reply.{Reply}
+use Rattle.directory.specs.Directory.{Directory}
 use Rattle.table.specs.Table.{rowSize, roomIn, MoreThan, Promise, faulty, listed}
+use Rattle.steps.specs.Situation.{Setting}
 use Rattle.rounds.specs.Rounds.{Complete, Finished}
 use Rattle.analysis.specs.Finished.{InTable}
 
@@ -28,6 +30,10 @@ module _ (words : List ℕ) (r : Reply) (is : r ≡ replyOf (faults words)) wher
       at : (f : Found) → faults words ≡ f → Promise words size r table
       at (fault number place) e = faulty number place e (is ∙ ap replyOf e) zeros
       at (sound p) e = absurd (nz (ap (λ (x : Reply). x .number) (is ∙ ap replyOf e)))
+
+-- an accepted program with the directory that is made of it
+pub setting-of : {words dir : List ℕ} {p : Program} → faults words ≡ sound p → ((q : Program) → faults words ≡ sound q → Directory words q dir) → Setting words dir p
+setting-of {p = p} e directory = record { accepted = e; directory = directory p e }
 
 -- words put behind a list that are zeros
 pub zeros-behind : (P rest t ys : List ℕ) (a : ℕ) → length P ≡ a → t ≡ P ++ rest → a ≤ length t → ys ≡ replicate (length (midOf a (length t - a) t)) 0

@@ -14,6 +14,8 @@ ghost use mathlib.Core.Path.{_≡_};
 ghost use lib.ListN.{length};
 ghost use Rattle.program.specs.Program.{Program};
 ghost use Rattle.program.specs.Faults.{faults, sound};
+ghost use Rattle.directory.specs.Layout.{dirWords};
+ghost use Rattle.directory.specs.Directory.{Directory};
 ghost use Rattle.table.specs.Table.{roomIn, Promise};
 ghost use Rattle.analysis.specs.Finished.{FinishAsked, InTable};
 
@@ -39,22 +41,22 @@ fn finish(words: &[u16], dir: &[u16], table: &mut [u16], rows: usize)
     zero(&mut table[end..]);
 }
 
-// The table of an accepted program.
-fn accepted(words: &[u16], table: &mut [u16]) -> Reply
-    requires { ⌜ ((p : Program) × (faults (now words) ≡ sound p)) ⌝ }
+// The table of an accepted program, and its directory in the lent words.
+pub fn tabled(words: &[u16], dir: &mut [u16], table: &mut [u16]) -> Reply
+    requires { ⌜ (length (now dir) ≡ dirWords) × ((p : Program) × (faults (now words) ≡ sound p)) ⌝ }
     ensures { λ r. ⌜ Promise (now (words .entry)) (length (now (table .entry))) r (now (table .exit)) ⌝ }
+    ensures in_dir { λ _. ⌜ ((p : Program) → faults (now (words .entry)) ≡ sound p → Directory (now (words .entry)) p (now (dir .exit))) ⌝ }
 {
-    let mut dir = [0u16; 9550];
     let mut buckets = [0u16; 4096];
     let mut heads = [0u16; 3075];
     let mut seen = [0u16; 4096];
     let mut answers = [0u16; 4096];
     let mut found = [0u16; 4096];
     let room = room_in(table.len());
-    directory(words, &mut dir);
+    directory(words, dir);
     let rows = rounds(
         words,
-        &dir,
+        dir,
         table,
         &mut buckets,
         &mut heads,
@@ -71,7 +73,7 @@ fn accepted(words: &[u16], table: &mut [u16]) -> Reply
             count: 0,
         };
     }
-    finish(words, &dir, table, rows);
+    finish(words, dir, table, rows);
     Reply {
         number: ACCEPTED,
         place: 0,
@@ -85,7 +87,8 @@ pub fn analyse(words: &[u16], table: &mut [u16]) -> Reply
 {
     let reply = scan(words);
     if reply.number == ACCEPTED {
-        return accepted(words, table);
+        let mut dir = [0u16; 9550];
+        return tabled(words, &mut dir, table);
     }
     zero(table);
     reply

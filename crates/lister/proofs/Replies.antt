@@ -67,14 +67,15 @@ module _ (words names : List ℕ) (p : Program) (e : faults words ≡ sound p) (
   pub analysis-refused : (r .number ≡ accepted → ⊥) → Promise words size (refused (r .number) (r .place)) table
   analysis-refused d = subst (λ (x : Reply). Promise words size x table) (λ i. record { number = r .number; place = r .place; count = refused-zeros words size r table a d .1 i }) a
 
-  pub analysis-filled : r .number ≡ accepted → size ≡ length table → ListAsked words names table (r .count)
-  analysis-filled z l =
+  pub analysis-filled : {dir : List ℕ} → ((q : Program) → faults words ≡ sound q → Directory words q dir) → r .number ≡ accepted → size ≡ length table → ListAsked words dir names table (r .count)
+  analysis-filled directory z l =
       let (q, entries, f, t, d) = accepted-listed words size r table a z in
       record {
         p = q;
         entries = entries;
         filled = record { program = f; named = rw (sound-same _ e f) at n; rows = t; analysed = subst (λ (m : ℕ). Promise words m (done (length entries)) table) l (rw d at a) };
         many = ap (λ (x : Reply). x .count) d;
+        directory = directory q f;
       }
 
 -- a table with its rows
@@ -94,13 +95,13 @@ module _ {words names : List ℕ} {size : ℕ} {table : List ℕ} {p : Program} 
   rows-regular e m = at-regular words p (w .program) (e .round) (e .row) (w .rows .only e m .0)
 
 -- all that the listing is of
-abbrev pub listing-asked : {words names table dir : List ℕ} {rows : ℕ} (w : ListAsked words names table rows) → Directory words (w .p) dir → ListingAsked words dir names table rows
-listing-asked {words} w d =
+abbrev pub listing-asked : {words dir names table : List ℕ} {rows : ℕ} (w : ListAsked words dir names table rows) → ListingAsked words dir names table rows
+listing-asked {words} w =
     record {
       tabled = record {
         words = words;
         p = w .p;
-        setting = record { accepted = w .filled .program; directory = d };
+        setting = record { accepted = w .filled .program; directory = w .directory };
         entries = w .entries;
         rest = _;
         regular = rows-regular (w .filled);

@@ -4,6 +4,8 @@ use mathlib.Core.Path.{_≡_}
 use mathlib.Core.List.{List, _++_, List·Memᴰ}
 use lib.ListN.{length}
 use Rattle.program.specs.Program.{Program}
+use Rattle.program.specs.Faults.{sound, faults}
+use Rattle.directory.specs.Directory.{Directory}
 use Rattle.table.specs.Table.{Entry, tableWords}
 use Rattle.table.specs.Keys.{Regular}
 use Rattle.steps.specs.Situation.{Setting}
@@ -27,9 +29,16 @@ pub record ListingAsked (words dir names table : List ℕ) (rows : ℕ) : Type 0
   pub words-are : tabled .words ≡ words
   pub named : namesFor (tabled .p) names ≡ right names
 
--- the table is filled with so many rows, and the listing is still to come
-pub record ListAsked (words names table : List ℕ) (rows : ℕ) : Type 0 where
+-- the program and its names are sound
+pub record Accepted (words names : List ℕ) : Type 0 where
+  pub p : Program
+  pub program : faults words ≡ sound p
+  pub named : namesFor p names ≡ right names
+
+-- the table is filled with so many rows, the directory is the program's, and the listing is still to come
+pub record ListAsked (words dir names table : List ℕ) (rows : ℕ) : Type 0 where
   pub p : Program
   pub entries : List Entry
   pub filled : Rows words names (length table) table p entries
   pub many : rows ≡ length entries
+  pub directory : Directory words p dir

@@ -1,18 +1,17 @@
 // The lister: from a program with its names, the table in lent words and its listing in lent bytes.
 use crate::listing::listing;
-use analysis::analyse::analyse;
+use analysis::analyse::tabled;
 use program::reply::ACCEPTED;
 use program::reply::NO_ROOM;
 use program::reply::Reply;
 use program::scan::scan;
 use rows::zeros::zero;
-use shaping::directory;
 use terms::walk::wide;
 use text::put::clear;
 use writer::names::names_reply;
 ghost use lib.ListN.{length};
 ghost use Rattle.lister.specs.Listed.{Refused, Listed};
-ghost use Rattle.lister.specs.Asked.{ListAsked};
+ghost use Rattle.lister.specs.Asked.{Accepted, ListAsked};
 
 // "Every refusal zeroes all lent output."
 fn refuse(number: u16, place: usize, table: &mut [u16], out: &mut [u8]) -> Reply
@@ -28,13 +27,18 @@ fn refuse(number: u16, place: usize, table: &mut [u16], out: &mut [u8]) -> Reply
 }
 
 // The table has its rows: their listing, where it has room.
-fn listed(words: &[u16], names: &[u8], rows: usize, table: &mut [u16], out: &mut [u8]) -> Reply
-    requires { ⌜ ListAsked (now words) (now names) (now table) rows ⌝ }
+fn listed(
+    words: &[u16],
+    dir: &[u16],
+    names: &[u8],
+    rows: usize,
+    table: &mut [u16],
+    out: &mut [u8],
+) -> Reply
+    requires { ⌜ ListAsked (now words) (now dir) (now names) (now table) rows ⌝ }
     ensures { λ r. ⌜ Listed (now (words .entry)) (now (names .entry)) (length (now (table .entry))) (length (now (out .entry))) r (now (table .exit)) (now (out .exit)) ⌝ }
 {
-    let mut dir = [0u16; 9550];
-    directory(words, &mut dir);
-    let size = listing(words, &dir, names, table, rows, out);
+    let size = listing(words, dir, names, table, rows, out);
     if out.len() < size {
         return refuse(NO_ROOM, out.len(), table, out);
     }
@@ -44,6 +48,19 @@ fn listed(words: &[u16], names: &[u8], rows: usize, table: &mut [u16], out: &mut
         place: 0,
         count: size,
     }
+}
+
+// Words and names are sound: the table of the program, where it has room, and its listing by the same directory.
+fn accepted(words: &[u16], names: &[u8], table: &mut [u16], out: &mut [u8]) -> Reply
+    requires { ⌜ Accepted (now words) (now names) ⌝ }
+    ensures { λ r. ⌜ Listed (now (words .entry)) (now (names .entry)) (length (now (table .entry))) (length (now (out .entry))) r (now (table .exit)) (now (out .exit)) ⌝ }
+{
+    let mut dir = [0u16; 9550];
+    let analysed = tabled(words, &mut dir, table);
+    if analysed.number != ACCEPTED {
+        return refuse(analysed.number, analysed.place, table, out);
+    }
+    listed(words, &dir, names, analysed.count, table, out)
 }
 
 // "After all faults in the words, writer and lister check the names"; "then room (9), .. rows before listing".
@@ -58,9 +75,5 @@ pub fn list(words: &[u16], names: &[u8], table: &mut [u16], out: &mut [u8]) -> R
     if named.number != ACCEPTED {
         return refuse(named.number, named.place, table, out);
     }
-    let analysed = analyse(words, table);
-    if analysed.number != ACCEPTED {
-        return refuse(analysed.number, analysed.place, table, out);
-    }
-    listed(words, names, analysed.count, table, out)
+    accepted(words, names, table, out)
 }

@@ -1,4 +1,5 @@
 -- `analyse` meets its contract: the scan accepts the words, or its reply is the fault's. Assumes nothing.
+use mathlib.Core.Path.{refl}
 use Rattle.analysis.proofs.Replies.{refused-faulty}
 use borrow.Author.Needs.{needs}
 use Rattle.program.proofs.FaultNumbers.{accepted-sound}
@@ -8,8 +9,11 @@ use Rattle.analysis.proofs.analyse.analyse.Tie as tie
 scan-requires : tie.Need-scan-requires
 scan-requires c κs = search needs
 
-accepted-requires : tie.Need-accepted-requires
-accepted-requires c κs = accepted-sound _ (c .before .before .before .scan .result) (c .before .before .before .scan .ensures) (c .before .if1 .taken)
+slice-aggregate-tabled : tie.Need-slice-aggregate-tabled
+slice-aggregate-tabled c = search needs
+
+tabled-requires : tie.Need-tabled-requires
+tabled-requires c κs = (refl, accepted-sound _ (c .before .before .before .before .scan .result) (c .before .before .before .before .scan .ensures) (c .before .before .if1 .taken))
 
 same-length : tie.Need-same-length
 same-length c = search needs
@@ -31,7 +35,8 @@ analyse-spec =
     tie.close
     (tie.spec
     scan-requires
-    accepted-requires
+    slice-aggregate-tabled
+    tabled-requires
     same-length
     returns
     zero-requires

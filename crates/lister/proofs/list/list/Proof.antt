@@ -1,9 +1,8 @@
--- `lister::list::list` meets its contract: faults first, then the names, then the room. Assumes nothing.
+-- `lister::list::list` meets its contract: faults first, then the names, then the table and its listing. Assumes nothing.
 use native.Mathlib.Omega.{arith}
-use mathlib.Core.Path.{sym}
 use Rattle.program.proofs.FaultNumbers.{accepted-sound}
-use Rattle.lister.specs.Listed.{faulty, misnamed, unlisted}
-use Rattle.lister.proofs.Replies.{scan-faulty, words-there, predicates-counted, functions-counted, symbols-few, names-replied, names-faulty, names-sound, analysis-refused, analysis-filled}
+use Rattle.lister.specs.Listed.{faulty, misnamed}
+use Rattle.lister.proofs.Replies.{scan-faulty, words-there, predicates-counted, functions-counted, symbols-few, names-replied, names-faulty, names-sound}
 use borrow.Author.Needs.{needs}
 use Rattle.lister.proofs.list.list.Statement.{statement}
 use Rattle.lister.proofs.list.list.Tie as tie
@@ -59,11 +58,13 @@ returns-2 c =
     let is = names-replied _ p e names r _ _ (c .before .before .before .before .before .before .before .before .before .before .before .before .wide .ensures .0) (c .before .before .before .before .before .before .before .before .before .before .wide2 .ensures .0) (c .before .before .before .before .before .before .before .before .before .names-reply .ensures) in
     misnamed p _ _ e (names-faulty p names r is (c .before .before .before .before .before .before .before .if2 .taken)) (c .before .before .before .before .refuse2 .ensures)
 
-analyse-requires : tie.Need-analyse-requires
-analyse-requires c κs = search needs
-
-refuse-requires-3 : tie.Need-refuse-requires-3
-refuse-requires-3 c κs = search needs
+accepted-requires : tie.Need-accepted-requires
+accepted-requires c κs =
+    let (p, e) = accepted-sound _ (c .before .before .before .before .before .before .before .before .before .before .before .scan .result) (c .before .before .before .before .before .before .before .before .before .before .before .scan .ensures) (c .before .before .before .before .before .before .before .before .before .if1 .left) in
+    let names = c .before .before .before .before .before .before .before .before .before .before .before .before .before .before .before .before .args .names .now in
+    let r = c .before .before .before .before .names-reply .result in
+    let is = names-replied _ p e names r _ _ (c .before .before .before .before .before .before .before .wide .ensures .0) (c .before .before .before .before .before .wide2 .ensures .0) (c .before .before .before .before .names-reply .ensures) in
+    record { p = p; program = e; named = names-sound p names r is (c .before .before .if2 .left) }
 
 same-length-5 : tie.Need-same-length-5
 same-length-5 c = search needs
@@ -72,30 +73,7 @@ same-length-6 : tie.Need-same-length-6
 same-length-6 c = search needs
 
 returns-3 : tie.Need-returns-3
-returns-3 c =
-    let (p, e) = accepted-sound _ (c .before .before .before .before .before .before .before .before .before .before .before .before .before .before .before .before .before .before .before .before .before .before .scan .result) (c .before .before .before .before .before .before .before .before .before .before .before .before .before .before .before .before .before .before .before .before .before .before .scan .ensures) (c .before .before .before .before .before .before .before .before .before .before .before .before .before .before .before .before .before .before .before .before .if1 .left) in
-    let names = c .before .before .before .before .before .before .before .before .before .before .before .before .before .before .before .before .before .before .before .before .before .before .before .before .before .before .before .args .names .now in
-    let r = c .before .before .before .before .before .before .before .before .before .before .before .before .before .before .before .names-reply .result in
-    let is = names-replied _ p e names r _ _ (c .before .before .before .before .before .before .before .before .before .before .before .before .before .before .before .before .before .before .wide .ensures .0) (c .before .before .before .before .before .before .before .before .before .before .before .before .before .before .before .before .wide2 .ensures .0) (c .before .before .before .before .before .before .before .before .before .before .before .before .before .before .before .names-reply .ensures) in
-    let n = names-sound p names r is (c .before .before .before .before .before .before .before .before .before .before .before .before .before .if2 .left) in
-    unlisted p _ _ _ e n (analysis-refused _ names p e n _ (c .before .before .before .before .before .before .before .before .before .before .before .analyse .result) _ (c .before .before .before .before .before .before .before .before .before .before .before .analyse .ensures) (c .before .before .before .before .before .before .before .if3 .taken)) (c .before .before .before .before .before .before .before .if3 .taken) (rw (c .before .before .before .before .before .before .before .before .before .before .before .analyse .kept .1 .0) at (c .before .before .before .before .refuse3 .ensures))
-
-listed-requires : tie.Need-listed-requires
-listed-requires c κs =
-    let (p, e) = accepted-sound _ (c .before .before .before .before .before .before .before .before .before .before .before .before .before .before .before .before .before .scan .result) (c .before .before .before .before .before .before .before .before .before .before .before .before .before .before .before .before .before .scan .ensures) (c .before .before .before .before .before .before .before .before .before .before .before .before .before .before .before .if1 .left) in
-    let names = c .before .before .before .before .before .before .before .before .before .before .before .before .before .before .before .before .before .before .before .before .before .before .args .names .now in
-    let r = c .before .before .before .before .before .before .before .before .before .before .names-reply .result in
-    let is = names-replied _ p e names r _ _ (c .before .before .before .before .before .before .before .before .before .before .before .before .before .wide .ensures .0) (c .before .before .before .before .before .before .before .before .before .before .before .wide2 .ensures .0) (c .before .before .before .before .before .before .before .before .before .before .names-reply .ensures) in
-    analysis-filled _ names p e (names-sound p names r is (c .before .before .before .before .before .before .before .before .if2 .left)) _ (c .before .before .before .before .before .before .analyse .result) _ (c .before .before .before .before .before .before .analyse .ensures) (c .before .before .if3 .left) (sym (c .before .before .before .before .before .before .analyse .kept .1 .0))
-
-same-length-7 : tie.Need-same-length-7
-same-length-7 c = search needs
-
-same-length-8 : tie.Need-same-length-8
-same-length-8 c = search needs
-
-returns-4 : tie.Need-returns-4
-returns-4 c = rw (c .before .before .before .before .before .before .before .before .before .before .before .analyse .kept .1 .0) at (c .before .before .before .before .listed .ensures)
+returns-3 c = search needs
 
 pub list-spec : {M : Type 1} → statement M
 list-spec =
@@ -115,12 +93,7 @@ list-spec =
     same-length-3
     same-length-4
     returns-2
-    analyse-requires
-    refuse-requires-3
+    accepted-requires
     same-length-5
     same-length-6
-    returns-3
-    listed-requires
-    same-length-7
-    same-length-8
-    returns-4)
+    returns-3)

@@ -11,17 +11,8 @@ use borrow.Author.Needs.{needs}
 use Rattle.lister.proofs.list.listed.Statement.{statement}
 use Rattle.lister.proofs.list.listed.Tie as tie
 
-slice-aggregate-directory : tie.Need-slice-aggregate-directory
-slice-aggregate-directory c = search needs
-
-directory-requires : tie.Need-directory-requires
-directory-requires c κs = search needs
-
-slice-aggregate-listing : tie.Need-slice-aggregate-listing
-slice-aggregate-listing c = search needs
-
 listing-requires : tie.Need-listing-requires
-listing-requires c κs = let w = c .before .before .before .before .before .before .before .before .before .before .pre in listing-asked w (c .before .before .before .before .directory .ensures (w .p) (w .filled .program))
+listing-requires c κs = listing-asked (c .before .before .before .before .before .before .before .pre)
 
 refuse-requires : tie.Need-refuse-requires
 refuse-requires c κs = search needs
@@ -34,8 +25,8 @@ same-length-2 c = search needs
 
 returns : tie.Need-returns
 returns c =
-    let w = c .before .before .before .before .before .before .before .before .before .before .before .before .before .before .before .before .before .before .before .before .before .pre in
-    let put = c .before .before .before .before .before .before .before .before .before .before .listing .ensures (listing-asked w (c .before .before .before .before .before .before .before .before .before .before .before .before .before .before .before .directory .ensures (w .p) (w .filled .program))) in
+    let w = c .before .before .before .before .before .before .before .before .before .before .before .before .before .before .before .before .before .before .pre in
+    let put = c .before .before .before .before .before .before .before .before .before .before .listing .ensures (listing-asked w) in
     over (w .p) (w .entries) _ (w .filled) (put-over put (omega (arith, put-length put, c .before .before .before .before .before .before .before .if1 .taken))) (rw (put-length put) at (c .before .before .before .before .refuse .ensures))
 
 clear-requires : tie.Need-clear-requires
@@ -49,18 +40,16 @@ same-length-4 c = search needs
 
 returns-2 : tie.Need-returns-2
 returns-2 c =
-    let w = c .before .before .before .before .before .before .before .before .before .before .before .before .before .before .before .before .before .before .pre in
-    let put = c .before .before .before .before .before .before .before .listing .ensures (listing-asked w (c .before .before .before .before .before .before .before .before .before .before .before .before .directory .ensures (w .p) (w .filled .program))) in
-    let fits : c .before .before .before .before .before .before .before .listing .result ≤ length (c .before .before .before .before .before .before .before .before .before .before .before .before .before .before .before .before .before .before .args .out .now) = omega (arith, put-length put, c .before .before .before .before .if1 .left) in
+    let s = c .before .before .before .before .before .before .before .before .before .before .before .before .before .before .before in
+    let w = s .pre in
+    let put = c .before .before .before .before .before .before .before .listing .ensures (listing-asked w) in
+    let fits : c .before .before .before .before .before .before .before .listing .result ≤ length (s .args .out .now) = omega (arith, put-length put, c .before .before .before .before .if1 .left) in
     listed (w .p) (w .entries) (w .filled) (omega (arith, put-count put fits, fits)) (ap done (sym (put-count put fits))) (c .before .before .clear .ensures ∙ put-roomed put fits)
 
 pub listed-spec : {M : Type 1} → statement M
 listed-spec =
     tie.close
     (tie.spec
-    slice-aggregate-directory
-    directory-requires
-    slice-aggregate-listing
     listing-requires
     refuse-requires
     same-length
