@@ -3,7 +3,8 @@ use Prim.Native.Nat.{ℕ, _≤_}
 use native.Mathlib.Omega.{arith}
 use mathlib.Core.Path.{_≡_, sym, subst}
 use mathlib.Core.Logic.{_⊎_, inl, inr, ⊎-elim}
-use mathlib.Core.List.{List, [], List·Memᴰ·not-nil}
+use mathlib.Core.List.{List, [], List·Memᴰ, List·Memᴰ·not-nil}
+use lib.ListN.{length}
 use Rattle.program.specs.Program.{Program}
 use Rattle.directory.specs.Directory.{predicateOf}
 use Rattle.rows.specs.Rows.{keysOf}
@@ -12,9 +13,10 @@ use Rattle.table.specs.NewRows.{new-on-head}
 use Rattle.steps.specs.Steps.{RowsIn, Grew, Stepped}
 use Rattle.steps.specs.Situation.{HeadAsked}
 use Rattle.steps.specs.Since.{SinceIn}
-use Rattle.clauses.specs.Clauses.{AtEnd, EndsSince}
+use Rattle.clauses.specs.Clauses.{AtEnd, EndsBy, EndsSince}
 use Rattle.steps.proofs.Stepping.{keys-stay, grew-must, stepped-then, stepped-must}
-use Rattle.clauses.proofs.HeadMarks.{all-new, late-found}
+use Rattle.clauses.proofs.HeadMarks.{keys-within, all-new, late-found}
+use Rattle.clauses.proofs.KeptMarks.{reached-known-or-new, reached-earlier}
 use Rattle.clauses.proofs.ClauseRows.{stepped-over, stands-on}
 
 -- new marks with all call rows, or all marks with new call rows
@@ -22,6 +24,17 @@ pub at-end : (p : Program) (ks₀ ks : List ℕ) (k key : ℕ) → AtEnd p ks₀
 at-end p ks₀ ks k key (inl (row, (N, marks, s, C, called, ends), e)) = inl (row, (N, marks, s, C, (called, λ o. List·Memᴰ·not-nil (o .1)), ends), e)
 at-end p ks₀ ks k key (inr (row, (N, on-head hc reached, s, C, called, ends), e)) =
     inr (row, (N, new-on-head hc (all-new p (RowsIn p []) (RowsIn p ks) (λ r o. List·Memᴰ·not-nil (o .1)) reached), s, C, called, ends), e)
+
+-- known marks with new call rows, or other marks with all call rows
+pub at-kept-end : (p : Program) (known ks₀ ks : List ℕ) → ((key : ℕ) → List·Memᴰ key known → List·Memᴰ key ks₀) → (k key : ℕ)
+    → AtEnd p ks₀ ks k key → EndsBy p [] known ks₀ ks k key ⊎ EndsSince p known [] ks k key
+at-kept-end p known ks₀ ks within k key (inl (row, (N, new-on-head {c = c} hc reached, s, C, called, ends), e)) =
+    inr (row, (N, new-on-head hc (reached-earlier p known ks₀ ks within k (length (c .body)) N reached), s, C, (called, λ o. List·Memᴰ·not-nil (o .1)), ends), e)
+at-kept-end p known ks₀ ks within k key (inr (row, (N, on-head hc reached, s, C, called, ends), e)) =
+    ⊎-elim
+    (λ r. inl (row, (N, new-on-head hc (all-new p (RowsIn p []) (RowsIn p known) (λ r o. List·Memᴰ·not-nil (o .1)) r), s, C, called, ends), e))
+    (λ r. inr (row, (N, new-on-head hc r, s, C, (called .0, λ o. List·Memᴰ·not-nil (o .1)), ends), e))
+    (reached-known-or-new p known ks reached)
 
 module _ (words dir heads table₀ buckets₀ : List ℕ) (since rows round room n : ℕ) (l : rows ≤ n) (k : ℕ) (w : HeadAsked words dir table₀ heads since rows k) where
   abbrev p : Program
@@ -59,3 +72,19 @@ module _ (words dir heads table₀ buckets₀ : List ℕ) (since rows round room
         (stepped-over p (λ ks₀ ks. EndsSince p [] ks₀ ks k) _ _ _ _ round room n′ n″ table buckets table′ buckets′
         (keys-stay table₀ table n since (omega (arith, w .situation .chains .new)) (g .same-rows)) (keys-stay table₀ table n rows l (g .same-rows))
         (step (stands-on words dir heads table₀ buckets₀ since rows round room n l k w New-marks n′ table buckets g))))
+
+  -- the marks that are known have met the new call rows: then the others meet all
+  module _ (known : ℕ) (early : known ≤ since) (n′ : ℕ) (table buckets : List ℕ)
+      (g : Grew p (keysOf table₀ rows) round room n table₀ buckets₀ (EndsBy p [] (keysOf table₀ known) (keysOf table₀ since) (keysOf table₀ rows) k) n′ table buckets) where
+    abbrev pub kept-asked : HeadAsked words dir table heads since rows k
+    kept-asked = stands-on words dir heads table₀ buckets₀ since rows round room n l k w _ n′ table buckets g
+
+    pub kept-ends : (n″ : ℕ) (table′ buckets′ : List ℕ)
+        → Stepped p (keysOf table rows) round room n′ table buckets (EndsSince p (keysOf table known) [] (keysOf table rows) k) n″ table′ buckets′
+        → Stepped p (keysOf table₀ rows) round room n table₀ buckets₀ (AtEnd p (keysOf table₀ since) (keysOf table₀ rows) k) n″ table′ buckets′
+    kept-ends n″ table′ buckets′ step =
+        stepped-must p (keysOf table₀ rows) round room n n″ table₀ buckets₀ table′ buckets′ _ _
+        (at-kept-end p (keysOf table₀ known) (keysOf table₀ since) (keysOf table₀ rows) (keys-within table₀ known since early) k)
+        (stepped-then p (keysOf table₀ rows) round room n n′ n″ table₀ buckets₀ table buckets table′ buckets′ _ _ g
+        (stepped-over p (λ ks₀ ks. EndsSince p ks₀ [] ks k) _ _ _ _ round room n′ n″ table buckets table′ buckets′
+        (keys-stay table₀ table n known (omega (arith, w .situation .chains .new)) (g .same-rows)) (keys-stay table₀ table n rows l (g .same-rows)) step))

@@ -4,7 +4,7 @@ use native.Mathlib.Omega.{arith}
 use native.Mathlib.Decide.{decLt}
 use mathlib.Core.Path.{_≡_, sym, ap, subst}
 use mathlib.Core.Logic.{_⊎_, inl, inr, ⊎-elim, _↔_}
-use mathlib.Core.List.{List, List·Memᴰ·not-nil}
+use mathlib.Core.List.{List, List·Memᴰ, List·Memᴰ·not-nil}
 use lib.ListN.{length, getD, replicate, List·getD-eq-default}
 use Rattle.terms.specs.Term.{Term, Subst, app, sub, All, Occ}
 use Rattle.terms.specs.Cells.{Atom}
@@ -22,16 +22,18 @@ use Rattle.directory.specs.Directory.{predicateOf}
 use Rattle.rows.specs.Rows.{masks, slotAt, keysOf}
 use Rattle.rows.specs.MaskSet.{setWords, InSet}
 use Rattle.rows.proofs.MaskSets.{none-in-zeros}
+use Rattle.rows.proofs.Keys.{listed-key, keys-by-row}
 use Rattle.table.specs.Rules.{Row, call, Reached, first, next}
 use Rattle.table.specs.Steps.{opens, makes, EndsIn, ends-in}
 use Rattle.table.specs.NewRows.{New, NewReached, new-on-head}
 use Rattle.table.specs.RoundKeys.{Keyed}
+use Rattle.table.proofs.RuleLaws.{reached-within}
 use Rattle.table.proofs.NewRows.{new-reached}
 use Rattle.steps.specs.Steps.{RowsIn}
 use Rattle.steps.specs.Situation.{HeadAsked}
 use Rattle.steps.specs.Since.{SinceIn}
 use Rattle.steps.specs.Heads.{ReachedSince, HeadMark, Marked, Solved, solved, SolveAsked}
-use Rattle.clauses.specs.Clauses.{EndsSince}
+use Rattle.clauses.specs.Clauses.{EndsBy, EndsSince}
 use Rattle.steps.proofs.ShapeAtoms.{shape-is-atom}
 use Rattle.steps.proofs.Meetings.{setting-within}
 use Rattle.steps.proofs.Bodies.{head-is-atom}
@@ -71,6 +73,17 @@ pub all-new : (p : Program) (T₀ T : Row ℕ → Type 0) → ((row : Row ℕ) �
 all-new p T₀ T none (first hc hs row passed) = (_, _, (row, none _), opens hc hs passed)
 all-new p T₀ T none (next hc hA hs row row′ passed joined) = (_, _, _, row, row′, inl (none _), makes hc hA hs passed joined)
 
+-- the first rows are among more of them
+pub keys-within : (table : List ℕ) (m n : ℕ) → m ≤ n → (key : ℕ) → List·Memᴰ key (keysOf table m) → List·Memᴰ key (keysOf table n)
+keys-within table m n l key h = let (r, b, e) = listed-key table m key h in keys-by-row table n key .1 (r, omega arith, e)
+
+-- marks from some of the rows are marks from all, since the first
+pub since-first : (p : Program) (table : List ℕ) (since marked rows k i N : ℕ) → marked ≤ rows → ReachedSince p table since marked k i N → ReachedSince p table 0 rows k i N
+since-first p table since marked rows k i N l h =
+    all-new p (RowsIn p (keysOf table 0)) (RowsIn p (keysOf table rows)) (λ row o. List·Memᴰ·not-nil (o .1))
+    (reached-within modes p (RowsIn p (keysOf table marked)) (RowsIn p (keysOf table rows)) (λ row (g, h). (g, keys-within table marked rows l _ h))
+    (new-reached modes p (RowsIn p (keysOf table since)) (RowsIn p (keysOf table marked)) k i N h))
+
 -- marks that an empty set has gained
 pub marked-empty : (P : ℕ → Type 0) (found₀ found : List ℕ) → found₀ ≡ replicate setWords 0 → Marked P found₀ found → Marked P (replicate setWords 0) found
 marked-empty P found₀ found e m = subst (λ (f : List ℕ). Marked P f found) e m
@@ -88,14 +101,9 @@ module _ (words dir table heads : List ℕ) (since rows k : ℕ) (w : HeadAsked 
   head-atom : Atom (p .predicates) (p .functions) (c .head)
   head-atom = head-is-atom (w .situation .setting) (w .clause .nth-clause)
 
-  -- marks since any row are marks since the first
-  since-first : (since′ i N : ℕ) → ReachedSince p table since′ rows k i N → ReachedSince p table 0 rows k i N
-  since-first since′ i N h =
-      all-new p (RowsIn p (keysOf table 0)) T (λ row o. List·Memᴰ·not-nil (o .1)) (new-reached modes p (RowsIn p (keysOf table since′)) T k i N h)
-
   -- marks that result are a head mark, kept to the head's variables
-  head-mark : (since′ i N : ℕ) → ReachedSince p table since′ rows k i N → (q : ℕ) × (q < masks) × Kept (λ v. Occ v (c .head)) N q × HeadMark p table since′ rows k i q
-  head-mark since′ i N reached =
+  head-mark : (since′ marked i N : ℕ) → ReachedSince p table since′ marked k i N → (q : ℕ) × (q < masks) × Kept (λ v. Occ v (c .head)) N q × HeadMark p table since′ marked k i q
+  head-mark since′ marked i N reached =
       let q = keptOf (λ v. Occ v (c .head)) (λ v. occ-decided v (c .head)) N in
       let kept = keptOf-kept (λ v. Occ v (c .head)) (λ v. occ-decided v (c .head)) N in (
         q,
@@ -104,7 +112,8 @@ module _ (words dir table heads : List ℕ) (since rows k : ℕ) (w : HeadAsked 
         record { c = c; nth-clause = w .clause .nth-clause; N = N; reached = reached; kept = kept },
       )
 
-  module _ (since′ : ℕ) (found : List ℕ) (marked : Marked (HeadMark p table since′ rows k (length (c .body))) (replicate setWords 0) found) where
+  -- a set of marks that result from the first so many rows
+  module _ (since′ upto : ℕ) (few : upto ≤ rows) (found : List ℕ) (marked : Marked (HeadMark p table since′ upto k (length (c .body))) (replicate setWords 0) found) where
     -- what the set has is below the number of masks, and a head mark
     pub found-below : (q : ℕ) → InSet found q → q < masks
     found-below q h = at (decLt q masks)
@@ -113,7 +122,7 @@ module _ (words dir table heads : List ℕ) (since rows k : ℕ) (w : HeadAsked 
         at (yes l) = l
         at (no n) = absurd (has-none (q % 16) (rw (List·getD-eq-default found 0 {n = q / 16} (omega (arith, marked .size))) at h))
 
-    found-mark : (q : ℕ) → InSet found q → HeadMark p table since′ rows k (length (c .body)) q
+    found-mark : (q : ℕ) → InSet found q → HeadMark p table since′ upto k (length (c .body)) q
     found-mark q h = ⊎-elim (λ z. absurd (none-in-zeros setWords q z)) (λ m. m) (marked .members q (found-below q h) .0 h)
 
     pub solve-asked : (from : ℕ) → from ≤ rows → SolveAsked words dir table heads found since from rows k
@@ -125,25 +134,25 @@ module _ (words dir table heads : List ℕ) (since rows k : ℕ) (w : HeadAsked 
           set-size = marked .size;
           result = λ q l h.
               let m = found-mark q h in
-              record { c = m .c; nth-clause = m .nth-clause; N = m .N; reached = since-first since′ (length (c .body)) (m .N) (m .reached); kept = m .kept };
+              record { c = m .c; nth-clause = m .nth-clause; N = m .N; reached = since-first p table since′ upto rows k (length (c .body)) (m .N) few (m .reached); kept = m .kept };
         }
 
     -- its masks stand in the first words
     pub found-words : (vars : ℕ) → ((v : ℕ) → Occ v (c .head) → v < vars) → (q : ℕ) → InSet found q → q / 16 < (2 ^ vars + 15) / 16
-    found-words vars few q h =
+    found-words vars below q h =
         let m = found-mark q h in
-        let l : q < 2 ^ vars = marks-below vars q (λ v b. few v (subst (λ (d : Clause). Occ v (d .head)) (nth-same (m .nth-clause) (w .clause .nth-clause)) (m .kept v .0 b .0))) in
+        let l : q < 2 ^ vars = marks-below vars q (λ v b. below v (subst (λ (d : Clause). Occ v (d .head)) (nth-same (m .nth-clause) (w .clause .nth-clause)) (m .kept v .0 b .0))) in
         omega arith
 
     -- no marks, and the set is still empty
-    pub none-found : ((v : ℕ) → getD found v 0 < masks) → ((q : ℕ) → HeadMark p table since′ rows k (length (c .body)) q → ⊥) → found ≡ replicate setWords 0
+    pub none-found : ((v : ℕ) → getD found v 0 < masks) → ((q : ℕ) → HeadMark p table since′ upto k (length (c .body)) q → ⊥) → found ≡ replicate setWords 0
     none-found small none = cleared-empty found 0 (marked .size) (omega arith) small (λ q h. absurd (none q (found-mark q h)))
 
     -- what the clause ends in by marks in the set is solved
-    pub ends-solved : (from key : ℕ) → EndsSince p (keysOf table since′) (keysOf table from) (keysOf table rows) k key → Keyed p (Solved p table from rows k found) key
+    pub ends-solved : (from key : ℕ) → EndsBy p (keysOf table since′) (keysOf table upto) (keysOf table from) (keysOf table rows) k key → Keyed p (Solved p table from rows k found) key
     ends-solved from key (_, (N, new-on-head {c = d} hc reached, s, C, called, ends-in {S = S} {R = R} hc′ hs passed), e) =
         let same = nth-same hc (w .clause .nth-clause) in
-        let (q, l, kept, m) = head-mark since′ (length (c .body)) N (subst (λ (d : Clause). ReachedSince p table since′ rows k (length (d .body)) N) same reached) in (
+        let (q, l, kept, m) = head-mark since′ upto (length (c .body)) N (subst (λ (d : Clause). ReachedSince p table since′ upto k (length (d .body)) N) same reached) in (
           _,
           solved (w .clause .nth-clause) l (marked .members q l .1 (inr m)) hs called
               (kept-passes (c .head) S N q C R kept (subst (λ (d : Clause). Pass (d .head) N S C R) (nth-same hc′ (w .clause .nth-clause)) passed)),
@@ -155,7 +164,7 @@ module _ (words dir table heads : List ℕ) (since rows k : ℕ) (w : HeadAsked 
       → EndsSince p (keysOf table since′) (keysOf table from) (keysOf table rows) k key → ⊥
   nothing-ends since′ from none key (row, (N, new-on-head {c = d} hc reached, s, C, called, ends), e) =
       let (q, l, kept, m) =
-      head-mark since′ (length (c .body)) N
+      head-mark since′ rows (length (c .body)) N
       (subst (λ (d : Clause). ReachedSince p table since′ rows k (length (d .body)) N) (nth-same hc (w .clause .nth-clause)) reached) in
       none q m
 

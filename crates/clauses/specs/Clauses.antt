@@ -38,11 +38,15 @@ Places p ks₀ ks k i = Below (λ i. Keyed p (NewGoesOn modes p (RowsIn p ks₀)
 abbrev pub AtEnd : Program → List ℕ → List ℕ → ℕ → ℕ → Type 0
 AtEnd p ks₀ ks k key = Keyed p (NewEnds modes p (RowsIn p ks₀) (RowsIn p ks) k) key ⊎ Keyed p (LateCalls modes p (RowsIn p ks₀) (RowsIn p ks) k) key
 
--- what clause k ends in by marks on its head that result with a row that is not in ks₀, and by call rows that are not in `from`
-abbrev pub EndsSince : Program → List ℕ → List ℕ → List ℕ → ℕ → ℕ → Type 0
-EndsSince p ks₀ from ks k =
+-- what clause k ends in by marks on its head that result from rows `marked` with one that is not in ks₀, and by call rows that are not in `from`
+abbrev pub EndsBy : Program → List ℕ → List ℕ → List ℕ → List ℕ → ℕ → ℕ → Type 0
+EndsBy p ks₀ marked from ks k =
     Keyed p (λ row.
-    (N : ℕ) × NewOnHead modes p (RowsIn p ks₀) (RowsIn p ks) k N × (s : ℕ) × (C : ℕ) × New modes p (RowsIn p from) (RowsIn p ks) (call s C) × EndsIn modes p k N s C row)
+    (N : ℕ) × NewOnHead modes p (RowsIn p ks₀) (RowsIn p marked) k N × (s : ℕ) × (C : ℕ) × New modes p (RowsIn p from) (RowsIn p ks) (call s C) × EndsIn modes p k N s C row)
+
+-- and by marks from all rows so far
+abbrev pub EndsSince : Program → List ℕ → List ℕ → List ℕ → ℕ → ℕ → Type 0
+EndsSince p ks₀ from ks k = EndsBy p ks₀ ks from ks k
 
 -- the scratch of a round: nothing seen, nothing found, and a list for the answers
 pub record Scratch (seen answers found : List ℕ) : Type 0 where

@@ -1,5 +1,5 @@
 // A clause in a round: the combinations with a row of the last round, place by place.
-use crate::ends::end_clause;
+use crate::ending::end_clause;
 use calling::calls::first_place;
 use directory::layout::CLAUSE_FIRST;
 use joining::joins::middle_place;
@@ -16,6 +16,7 @@ ghost use Rattle.table.specs.RoundKeys.{Keyed};
 ghost use Rattle.steps.specs.Situation.{HeadAsked};
 ghost use Rattle.steps.specs.Steps.{RowsIn, Writable, Stepped};
 ghost use Rattle.clauses.specs.Clauses.{MiddlesAsked, PastPlaces, Places, Scratch};
+ghost use Rattle.clauses.specs.Keeping.{Keeps};
 
 // The middle places of a clause, whose body atoms are first..last.
 fn middle_places<'a>(
@@ -117,16 +118,18 @@ pub fn clause<'a>(
     seen: &mut [u16],
     answers: &mut [u16],
     found: &mut [u16],
+    kept: &mut [u16],
     n: usize,
     at: Round,
     k: usize,
 ) -> usize
     requires { ⌜ HeadAsked (now words) (now dir) (now table) (now heads) (at .since) (at .rows) k × Writable (now table) (now buckets) n (at .room) × (at .rows ≤ n)
-        × Scratch (now seen) (now answers) (now found) ⌝ }
+        × Scratch (now seen) (now answers) (now found) × Keeps (now words) (now dir) (now table) (now kept) (at .rows) ⌝ }
     ensures { λ r. ⌜ Scratch (now (seen .exit)) (now (answers .exit)) (now (found .exit))
         × ((w : HeadAsked (now (words .entry)) (now (dir .entry)) (now (table .entry)) (now (heads .entry)) (at .since) (at .rows) k)
         → Stepped (w .situation .p) (keysOf (now (table .entry)) (at .rows)) (at .number) (at .room) n (now (table .entry)) (now (buckets .entry))
-        (Keyed (w .situation .p) (NewIn modes (w .situation .p) (RowsIn (w .situation .p) (keysOf (now (table .entry)) (at .since))) (RowsIn (w .situation .p) (keysOf (now (table .entry)) (at .rows))) k)) r (now (table .exit)) (now (buckets .exit))) ⌝ }
+        (Keyed (w .situation .p) (NewIn modes (w .situation .p) (RowsIn (w .situation .p) (keysOf (now (table .entry)) (at .since))) (RowsIn (w .situation .p) (keysOf (now (table .entry)) (at .rows))) k)) r (now (table .exit)) (now (buckets .exit)))
+        × (r ≤ at .room → Keeps (now (words .entry)) (now (dir .entry)) (now (table .exit)) (now (kept .exit)) (at .rows)) ⌝ }
 {
     let room = at.room;
     let rows = places(words, dir, table, buckets, heads, seen, answers, n, at, k);
@@ -142,6 +145,7 @@ pub fn clause<'a>(
         seen,
         answers,
         found,
+        kept,
         rows,
         at,
         k,

@@ -21,7 +21,7 @@ ghost use Rattle.steps.specs.Heads.{HeadMark, Marked, Told};
 ghost use Rattle.clauses.specs.Clauses.{EndsSince, AtEnd, Scratch};
 
 // Marks on the head of clause k that result from rows since `since`. Says whether there are any.
-fn head_marks<'a>(
+pub fn head_marks<'a>(
     words: &'a [u16],
     dir: &'a [u16],
     table: &[u16],
@@ -117,8 +117,8 @@ fn end_since<'a>(
     rows
 }
 
-// Rule 3 for clause k: new marks on the head to all call rows, and, where a call row is new, all marks to the new calls, for their sake.
-pub fn end_clause<'a>(
+// Rule 3 for clause k, whose marks are not kept: new marks on the head to all call rows, and, where a call row is new, all marks to the new calls, for their sake.
+pub fn end_all<'a>(
     words: &'a [u16],
     dir: &'a [u16],
     table: &mut [u16],

@@ -1,4 +1,4 @@
--- `end_clause` meets its contract: what new marks end in with all call rows, and, where a call row is new, what all marks end in with the new ones.
+-- `end_all` meets its contract: what new marks end in with all call rows, and, where a call row is new, what all marks end in with the new ones.
 -- Assumes nothing.
 use Prim.Native.Nat.{ℕ}
 use native.Mathlib.Omega.{arith}
@@ -12,8 +12,8 @@ use Rattle.steps.specs.Since.{SinceIn}
 use Rattle.steps.proofs.Stepping.{stepped-within, stepped-past}
 use Rattle.clauses.proofs.ClauseRows.{clause-few, head-there, head-predicate, predicate-asked, stands-on}
 use Rattle.clauses.proofs.Endings.{ends-first, ends-early, ends-late}
-use Rattle.clauses.proofs.ends.end_clause.Statement.{statement}
-use Rattle.clauses.proofs.ends.end_clause.Tie as tie
+use Rattle.clauses.proofs.ends.end_all.Statement.{statement}
+use Rattle.clauses.proofs.ends.end_all.Tie as tie
 
 end-since-requires : tie.Need-end-since-requires
 end-since-requires c κs = (c .before .before .before .before .before .before .before .before .before .before .before .before .before .pre .0, c .before .before .before .before .before .before .before .before .before .before .before .before .before .pre .1, c .before .before .before .before .before .before .before .before .before .before .before .before .before .pre .2, c .before .before .before .before .before .before .before .before .before .before .before .before .before .pre .3, c .before .before .before .before .before .before .before .before .before .before .before .before .before .pre .0 .situation .chains .new, omega arith)
@@ -131,8 +131,8 @@ returns-4 c = (
   λ w. ends-late _ _ _ _ _ _ _ (c .before .before .before .before .before .before .before .before .before .before .before .before .before .before .before .before .before .before .before .before .before .before .before .before .before .before .before .before .before .before .before .before .before .before .before .before .before .before .before .before .before .before .before .before .before .before .before .before .args .at .number) _ _ (c .before .before .before .before .before .before .before .before .before .before .before .before .before .before .before .before .before .before .before .before .before .before .before .before .before .before .before .before .before .before .before .before .before .before .before .before .before .before .before .before .before .before .before .before .before .before .before .before .pre .2) _ w _ _ _ (stepped-within _ _ (c .before .before .before .before .before .before .before .before .before .before .before .before .before .before .before .before .before .before .before .before .before .before .before .before .before .before .before .before .before .before .before .before .before .before .before .before .before .before .before .before .before .before .before .before .before .before .before .before .args .at .number) _ _ _ _ _ _ _ _ (c .before .before .before .before .before .before .before .before .before .before .before .before .before .before .before .before .before .before .before .before .before .before .before .before .before .before .before .before .before .before .before .before .before .before .end-since .ensures .1 w) (c .before .before .before .before .before .before .before .before .before .before .before .before .before .before .before .before .before .before .before .before .before .before .before .if1 .left)) _ _ _ (c .before .before .before .before .before .before .before .before .before .before .end-since2 .ensures .1),
 )
 
-pub end-clause-spec : {M : Type 1} → statement M
-end-clause-spec =
+pub end-all-spec : {M : Type 1} → statement M
+end-all-spec =
     tie.close
     (tie.spec
     end-since-requires

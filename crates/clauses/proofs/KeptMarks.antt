@@ -1,0 +1,244 @@
+-- Marks on a clause's head that are kept between rounds: what results from the rows so far is what is kept and what a row more gives.
+use Prim.Native.Nat.{ℕ, zero, suc, _+_, _*_, _/_, _%_, _≤_, _<_}
+use native.Mathlib.Omega.{arith}
+use native.Mathlib.Decide.{decLt, ℕ-discrete}
+use mathlib.Core.Path.{_≡_, refl, sym, ap, subst, _∙_}
+use mathlib.Core.Logic.{_⊎_, inl, inr, ⊎-elim, _↔_}
+use mathlib.Core.List.{List, [], List·Memᴰ, List·Memᴰ·not-nil}
+use lib.ListN.{length, getD, set, replicate, length-set, length-replicate}
+use lib.Seq.{getD-set-same, getD-set-other}
+use Rattle.terms.specs.Term.{Occ}
+use Rattle.terms.proofs.Masks.{has-none, marks-below}
+use Rattle.marks.specs.Modes.{modes}
+use Rattle.program.specs.Program.{Nth, Clause, Program}
+use Rattle.program.proofs.ShapeLaws.{nth-same, member-decided}
+use Rattle.program.proofs.Nths.{nth-below}
+use Rattle.directory.specs.Layout.{clauseVars}
+use Rattle.rows.specs.Rows.{keysOf}
+use Rattle.rows.specs.MaskSet.{setWords, InSet}
+use Rattle.rows.proofs.MaskSets.{none-in-zeros}
+use Rattle.table.specs.Rules.{Row, call, cont, solution, Reached, first, next}
+use Rattle.table.specs.Keys.{keyOf}
+use Rattle.table.specs.Steps.{opens, makes}
+use Rattle.table.specs.NewRows.{NewReached, new-on-head}
+use Rattle.table.proofs.NewRows.{new-reached}
+use Rattle.table.proofs.Promise.{sound-same}
+use Rattle.steps.specs.Steps.{RowsIn, Stepped}
+use Rattle.steps.specs.Situation.{Setting, HeadAsked}
+use Rattle.steps.specs.Heads.{HeadMark, Marked}
+use Rattle.steps.proofs.Stepping.{keys-stay, stepped-within}
+use Rattle.steps.proofs.Meetings.{setting-within}
+use Rattle.clauses.specs.Clauses.{EndsBy}
+use Rattle.clauses.specs.Keeping.{keptVars, keptMasks, keptSet, keptRows, keptWords, KeptIn, knownOf, Keeping, Keeps, Recalled, Gained}
+use Rattle.clauses.proofs.ClauseRows.{vars-head}
+use Rattle.clauses.proofs.HeadMarks.{all-new, since-first}
+use Rattle.clauses.proofs.KeptWords.{zero-word}
+
+-- marks result from rows that are known alone, or from one that is not
+pub reached-known-or-new : (p : Program) (known ks : List ℕ) {k i N : ℕ} → Reached modes p (RowsIn p ks) k i N
+    → Reached modes p (RowsIn p known) k i N ⊎ NewReached modes p (RowsIn p known) (RowsIn p ks) k i N
+reached-known-or-new p known ks {N = N} (first {k = k} {s = s} {M = M} hc hs row passed) = at (member-decided ℕ-discrete (keyOf p (call s M)) known)
+  where
+    at : Dec (List·Memᴰ (keyOf p (call s M)) known) → Reached modes p (RowsIn p known) k 0 N ⊎ NewReached modes p (RowsIn p known) (RowsIn p ks) k 0 N
+    at (yes m) = inl (first hc hs (row .0, m) passed)
+    at (no n) = inr (s, M, (row, λ o. n (o .1)), opens hc hs passed)
+reached-known-or-new p known ks {N = N} (next {k = k} {i = i} {s = s} {M = M} {L = L} hc hA hs row row′ passed joined) =
+    at (member-decided ℕ-discrete (keyOf p (cont (suc k) (suc i) M)) known) (member-decided ℕ-discrete (keyOf p (solution s L)) known)
+  where
+    at : Dec (List·Memᴰ (keyOf p (cont (suc k) (suc i) M)) known) → Dec (List·Memᴰ (keyOf p (solution s L)) known)
+        → Reached modes p (RowsIn p known) k (suc i) N ⊎ NewReached modes p (RowsIn p known) (RowsIn p ks) k (suc i) N
+    at (yes m) (yes m′) = inl (next hc hA hs (row .0, m) (row′ .0, m′) passed joined)
+    at (yes m) (no n) = inr (M, s, L, row, row′, inr (λ o. n (o .1)), makes hc hA hs passed joined)
+    at (no n) _ = inr (M, s, L, row, row′, inl (λ o. n (o .1)), makes hc hA hs passed joined)
+
+-- what is new since a round is new since an earlier one
+pub reached-earlier : (p : Program) (known ks₀ ks : List ℕ) → ((key : ℕ) → List·Memᴰ key known → List·Memᴰ key ks₀) → (k i N : ℕ)
+    → NewReached modes p (RowsIn p ks₀) (RowsIn p ks) k i N → NewReached modes p (RowsIn p known) (RowsIn p ks) k i N
+reached-earlier p known ks₀ ks within k zero N (s, M, (row, n), o) = (s, M, (row, λ x. n (x .0, within _ (x .1))), o)
+reached-earlier p known ks₀ ks within k (suc i) N (M, s, L, row, row′, n, o) =
+    (M, s, L, row, row′, ⊎-elim (λ a. inl (λ x. a (x .0, within _ (x .1)))) (λ a. inr (λ x. a (x .0, within _ (x .1)))) n, o)
+
+-- nothing results from no rows
+nothing-reached : (p : Program) (T₀ : Row ℕ → Type 0) (k i N : ℕ) → NewReached modes p T₀ (RowsIn p []) k i N → ⊥
+nothing-reached p T₀ k zero N (s, M, new, o) = List·Memᴰ·not-nil (new .0 .1)
+nothing-reached p T₀ k (suc i) N (M, s, L, row, row′, new, o) = List·Memᴰ·not-nil (row .1)
+
+pub none-known : (p : Program) (table from ks : List ℕ) (known k key : ℕ) → known ≡ 0 → EndsBy p [] (keysOf table known) from ks k key → ⊥
+none-known p table from ks known k key e (row, (N, new-on-head {c = c} hc reached, s, C, called, ends), is) =
+    nothing-reached p (RowsIn p []) k (length (c .body)) N
+    (subst (λ (x : ℕ). NewReached modes p (RowsIn p []) (RowsIn p (keysOf table x)) k (length (c .body)) N) e reached)
+
+module _ (p : Program) (table : List ℕ) where
+  -- marks that result from rows that are known, or from more, result from the rows so far
+  pub mark-all : (since known rows k i q : ℕ) → known ≤ rows → HeadMark p table since known k i q → HeadMark p table 0 rows k i q
+  mark-all since known rows k i q l m =
+      record { c = m .c; nth-clause = m .nth-clause; N = m .N; reached = since-first p table since known rows k i (m .N) l (m .reached); kept = m .kept }
+
+  -- and the marks that result from the rows so far are those and no others
+  pub mark-split : (known rows k i q : ℕ) → HeadMark p table 0 rows k i q → HeadMark p table 0 known k i q ⊎ HeadMark p table known rows k i q
+  mark-split known rows k i q m =
+      ⊎-elim
+      (λ r. inl (record {
+        c = m .c;
+        nth-clause = m .nth-clause;
+        N = m .N;
+        reached = all-new p (RowsIn p []) (RowsIn p (keysOf table known)) (λ row o. List·Memᴰ·not-nil (o .1)) r;
+        kept = m .kept;
+      }))
+      (λ r. inr (record { c = m .c; nth-clause = m .nth-clause; N = m .N; reached = r; kept = m .kept }))
+      (reached-known-or-new p (keysOf table known) (keysOf table rows) (new-reached modes p (RowsIn p []) (RowsIn p (keysOf table rows)) k i (m .N) (m .reached)))
+
+  no-mark : (since k i q : ℕ) → HeadMark p table since 0 k i q → ⊥
+  no-mark since k i q m = nothing-reached p (RowsIn p (keysOf table since)) k i (m .N) (m .reached)
+
+  -- marks go by the keys of the rows that are known
+  mark-stays : (table′ : List ℕ) (known k i q : ℕ) → keysOf table′ known ≡ keysOf table known → HeadMark p table 0 known k i q → HeadMark p table′ 0 known k i q
+  mark-stays table′ known k i q e m =
+      record {
+        c = m .c;
+        nth-clause = m .nth-clause;
+        N = m .N;
+        reached = subst (λ (ks : List ℕ). NewReached modes p (RowsIn p []) (RowsIn p ks) k i (m .N)) (sym e) (m .reached);
+        kept = m .kept;
+      }
+
+-- what is kept stays as the table grows, and as rows are linked
+pub keeping-stays : (p : Program) (table table′ kept : List ℕ) (n : ℕ) → ((m : ℕ) → m ≤ n → keysOf table′ m ≡ keysOf table m) → Keeping p table kept n → Keeping p table′ kept n
+keeping-stays p table table′ kept n same s =
+    record {
+      size = s .size;
+      known-within = s .known-within;
+      members = λ k c hc q l.
+          let e = same (knownOf kept k) (s .known-within k c hc) in (
+            λ h. mark-stays p table table′ (knownOf kept k) k (length (c .body)) q e (s .members k c hc q l .0 h),
+            λ m. s .members k c hc q l .1 (mark-stays p table′ table (knownOf kept k) k (length (c .body)) q (sym e) m),
+          );
+    }
+
+pub keeping-later : (p : Program) (table kept : List ℕ) (n n′ : ℕ) → n ≤ n′ → Keeping p table kept n → Keeping p table kept n′
+keeping-later p table kept n n′ b s =
+    record { size = s .size; known-within = λ k c hc. let l = s .known-within k c hc in omega arith; members = s .members }
+
+-- with all words 0 nothing is kept, of no rows
+pub keeping-none : (p : Program) (table kept : List ℕ) (n : ℕ) → kept ≡ replicate keptWords 0 → Keeping p table kept n
+keeping-none p table kept n e =
+    record {
+      size = ap length e ∙ length-replicate {A = ℕ} keptWords 0;
+      known-within = λ k c hc. let z = zero (keptRows + k) in omega arith;
+      members = λ k c hc q l. (
+        λ h. absurd (has-none (q % 16) (rw (zero (keptSet * k + q / 16)) at h)),
+        λ m. absurd (no-mark p table 0 k (length (c .body)) q (subst (λ (x : ℕ). HeadMark p table 0 x k (length (c .body)) q) (zero (keptRows + k)) m)),
+      );
+    }
+  where
+    zero : (i : ℕ) → getD kept i 0 ≡ 0
+    zero i = ap (λ (l : List ℕ). getD l i 0) e ∙ zero-word keptWords i
+
+-- a set that gains nothing, and one that gains the marks of a set
+pub gained-none : {P : ℕ → Type 0} (k : ℕ) (kept : List ℕ) → ((q : ℕ) → P q → ⊥) → Gained P k kept kept
+gained-none k kept none = record { size = refl; members = λ q l. (inl, ⊎-elim (λ h. h) (λ m. absurd (none q m))); others = λ i o. refl }
+
+pub gained-marked : {P : ℕ → Type 0} (k : ℕ) (kept kept′ found : List ℕ) → Marked P (replicate setWords 0) found → Gained (InSet found) k kept kept′ → Gained P k kept kept′
+gained-marked k kept kept′ found m g =
+    record {
+      size = g .size;
+      members = λ q l. (
+        λ h. ⊎-elim inl (λ i. inr (⊎-elim (λ z. absurd (none-in-zeros setWords q z)) (λ x. x) (m .members q (omega arith) .0 i))) (g .members q l .0 h),
+        λ h. g .members q l .1 (⊎-elim inl (λ x. inr (m .members q (omega arith) .1 (inr x))) h),
+      );
+      others = g .others;
+    }
+
+-- words say one program
+pub keeps-all : {words dir : List ℕ} {p : Program} (table kept : List ℕ) (n : ℕ) → Setting words dir p → Keeping p table kept n → Keeps words dir table kept n
+keeps-all table kept n s h p′ s′ = subst (λ (x : Program). Keeping x table kept n) (sound-same _ (s .accepted) (s′ .accepted)) h
+
+-- the table of a step has the rows that are known
+pub step-keeps : (p : Program) (ks : List ℕ) (round room n n′ rows : ℕ) (table buckets table′ buckets′ kept : List ℕ) (Must : ℕ → Type 0) → rows ≤ n
+    → Stepped p ks round room n table buckets Must n′ table′ buckets′ → n′ ≤ room → Keeping p table kept rows → Keeping p table′ kept rows
+step-keeps p ks round room n n′ rows table buckets table′ buckets′ kept Must l step within =
+    let g = stepped-within p ks round room n n′ table buckets table′ buckets′ Must step within in
+    keeping-stays p table table′ kept rows (λ m b. keys-stay table table′ n m (omega arith) (g .same-rows))
+
+module _ {words dir : List ℕ} {p : Program} (setting : Setting words dir p) (table : List ℕ) (rows k : ℕ) {c : Clause} (hc : Nth (p .clauses) k c) (kept kept′ : List ℕ) (s : Keeping p table kept rows)
+    (g : Gained (HeadMark p table (knownOf kept k) rows k (length (c .body))) k kept kept′) where
+  below : {k′ : ℕ} {c′ : Clause} → Nth (p .clauses) k′ c′ → k′ < 64
+  below h = omega (arith, nth-below h, setting-within setting .clauses-most)
+
+  abbrev now-known : List ℕ
+  now-known = set kept′ (keptRows + k) rows
+
+  its-rows : knownOf now-known k ≡ rows
+  its-rows = getD-set-same kept′ (keptRows + k) rows 0 (omega (arith, below hc, g .size, s .size))
+
+  other-rows : (k′ : ℕ) → (k′ ≡ k → ⊥) → knownOf now-known k′ ≡ knownOf kept k′
+  other-rows k′ o = getD-set-other kept′ (keptRows + k) (keptRows + k′) rows 0 (λ e. o (omega arith)) ∙ g .others (keptRows + k′) (inr (omega (arith, below hc)))
+
+  set-word : (k′ q : ℕ) → k′ < 64 → q < keptMasks → getD now-known (keptSet * k′ + q / 16) 0 ≡ getD kept′ (keptSet * k′ + q / 16) 0
+  set-word k′ q b l = getD-set-other kept′ (keptRows + k) (keptSet * k′ + q / 16) rows 0 (λ e. omega arith)
+
+  its-marks : (q : ℕ) → q < keptMasks → KeptIn now-known k q ↔ HeadMark p table 0 rows k (length (c .body)) q
+  its-marks q l = rw (set-word k q (below hc) l) (
+    λ h. ⊎-elim
+        (λ h′. mark-all p table 0 (knownOf kept k) rows k (length (c .body)) q (s .known-within k c hc) (s .members k c hc q l .0 h′))
+        (λ m. mark-all p table (knownOf kept k) rows rows k (length (c .body)) q (omega arith) m)
+        (g .members q l .0 h),
+    λ m. g .members q l .1 (⊎-elim (λ m′. inl (s .members k c hc q l .1 m′)) inr (mark-split p table (knownOf kept k) rows k (length (c .body)) q m)),
+  )
+
+  other-word : (k′ q : ℕ) → (k′ ≡ k → ⊥) → k′ < 64 → q < keptMasks → getD now-known (keptSet * k′ + q / 16) 0 ≡ getD kept (keptSet * k′ + q / 16) 0
+  other-word k′ q o b l = set-word k′ q b l ∙ g .others (keptSet * k′ + q / 16) (side (order k′ k))
+    where
+      order : (x y : ℕ) → (x < y) ⊎ (y ≤ x)
+      order x y = decided (decLt x y)
+        where
+          decided : Dec (x < y) → (x < y) ⊎ (y ≤ x)
+          decided (yes h) = inl h
+          decided (no h) = inr (omega arith)
+
+      side : (k′ < k) ⊎ (k ≤ k′) → (keptSet * k′ + q / 16 < keptSet * k) ⊎ (keptSet * k + keptSet ≤ keptSet * k′ + q / 16)
+      side (inl h) = inl (omega arith)
+      side (inr h) = inr (above (ℕ-discrete k′ k))
+        where
+          above : Dec (k′ ≡ k) → keptSet * k + keptSet ≤ keptSet * k′ + q / 16
+          above (yes e) = absurd (o e)
+          above (no e) = omega arith
+
+  -- the marks that are new are kept, and all rows so far are known
+  pub keeping-gained : Keeping p table (set kept′ (keptRows + k) rows) rows
+  keeping-gained =
+      record {
+        size = length-set kept′ (keptRows + k) rows ∙ g .size ∙ s .size;
+        known-within = λ k′ c′ h. within k′ c′ h (ℕ-discrete k′ k);
+        members = λ k′ c′ h q l. at k′ c′ h q l (ℕ-discrete k′ k);
+      }
+    where
+      within : (k′ : ℕ) (c′ : Clause) → Nth (p .clauses) k′ c′ → Dec (k′ ≡ k) → knownOf now-known k′ ≤ rows
+      within k′ c′ h (yes e) = rw e (omega (arith, its-rows))
+      within k′ c′ h (no o) = rw (other-rows k′ o) (s .known-within k′ c′ h)
+
+      at : (k′ : ℕ) (c′ : Clause) (h : Nth (p .clauses) k′ c′) (q : ℕ) → q < keptMasks → Dec (k′ ≡ k)
+          → KeptIn now-known k′ q ↔ HeadMark p table 0 (knownOf now-known k′) k′ (length (c′ .body)) q
+      at k′ c′ h q l (no o) = rw (other-rows k′ o, other-word k′ q o (below h) l) (s .members k′ c′ h q l)
+      at k′ c′ h q l (yes e) =
+          let same : c′ ≡ c = nth-same (subst (λ (x : ℕ). Nth (p .clauses) x c′) e h) hc in
+          rw (e, same, its-rows) (its-marks q l)
+
+-- what is recalled for a clause of few variables is all that results from the rows that are known
+module _ (words dir table heads : List ℕ) (since rows k : ℕ) (w : HeadAsked words dir table heads since rows k) (kept found : List ℕ)
+    (s : Keeping (w .situation .p) table kept rows) (few : getD dir (clauseVars + k) 0 ≤ keptVars) (r : Recalled kept k found) where
+  pub recalled-marked : Marked (HeadMark (w .situation .p) table 0 (knownOf kept k) k (length (w .clause .c .body))) (replicate setWords 0) found
+  recalled-marked =
+      record {
+        size = r .size;
+        members = λ q l. (
+          λ h. let (b, i) = r .members q .0 h in inr (s .members k (w .clause .c) (w .clause .nth-clause) q b .0 i),
+          ⊎-elim (λ z. absurd (none-in-zeros setWords q z)) (λ m. r .members q .1 (small q m, s .members k (w .clause .c) (w .clause .nth-clause) q (small q m) .1 m)),
+        );
+      }
+    where
+      small : (q : ℕ) → HeadMark (w .situation .p) table 0 (knownOf kept k) k (length (w .clause .c .body)) q → q < keptMasks
+      small q m =
+          marks-below 9 q (λ v b.
+          let d = vars-head words dir table heads since rows k w v (subst (λ (d : Clause). Occ v (d .head)) (nth-same (m .nth-clause) (w .clause .nth-clause)) (m .kept v .0 b .0)) in
+          omega arith)
