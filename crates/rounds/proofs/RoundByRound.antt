@@ -36,6 +36,8 @@ use Rattle.steps.specs.Steps.{RowsIn, Given, Writable, Grew, Overfull, Stepped}
 use Rattle.steps.specs.Situation.{Setting, Situation}
 use Rattle.rounds.specs.Rounds.{InRounds, Complete}
 use Rattle.steps.proofs.Stepping.{keys-stay}
+use Rattle.clauses.specs.Keeping.{Keeping}
+use Rattle.clauses.proofs.KeptMarks.{keeping-stays}
 
 -- the rows so far are those of round k, those before `since` the rows of the round before
 pub record Rounding (p : Program) (table buckets heads : List ℕ) (room since rows number : ℕ) : Type 0 where
@@ -71,6 +73,11 @@ module _ (p : Program) (T₀ T T₀′ T′ : Row ℕ → Type 0) (more : Within
       (k, inr (inl (N, new-on-head hc (new-reached-for k (length (c .body)) N reached), s, C, more _ called, ends)))
   new-gives-for row (k, inr (inr (N, on-head hc reached, s, C, (called, n), ends))) =
       (k, inr (inr (N, on-head hc (reached-within modes p T T′ more reached), s, C, (more _ called, λ x. n (fewer _ x)), ends)))
+
+-- what is kept of the rows stays when they are linked
+pub linked-keeps : (p : Program) (table table′ heads′ kept : List ℕ) {since rows : ℕ} → Linked table since rows table′ heads′ → Keeping p table kept rows → Keeping p table′ kept rows
+linked-keeps p table table′ heads′ kept {since} {rows} linked =
+    keeping-stays p table table′ kept rows (λ m l. befores-keys since rows table table′ (linked .only-befores) m)
 
 module _ (words dir : List ℕ) (p : Program) (setting : Setting words dir p) where
   few : Few p

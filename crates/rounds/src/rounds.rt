@@ -29,6 +29,7 @@ ghost use Rattle.table.specs.RoundKeys.{Keyed};
 ghost use Rattle.steps.specs.Situation.{Setting, Situation, HeadAsked};
 ghost use Rattle.steps.specs.Steps.{RowsIn, Writable, Stepped};
 ghost use Rattle.clauses.specs.Clauses.{Scratch};
+ghost use Rattle.clauses.specs.Keeping.{Keeps};
 ghost use Rattle.rounds.specs.Rounds.{RoundsAsked, Finished};
 ghost use Rattle.rounds.specs.Standing.{Stands};
 ghost use Rattle.rounds.specs.Active.{Noted, HeadsNoted, BodiesNoted, Indexed, Concerns, IndexAsked, ShapeAsked, RoundAsked, LookAsked};
@@ -140,17 +141,19 @@ fn look<'a>(
     seen: &mut [u16],
     answers: &mut [u16],
     found: &mut [u16],
+    kept: &mut [u16],
     n: usize,
     at: Round,
     k: usize,
     concerns: u64,
 ) -> usize
     requires { ⌜ LookAsked (now words) (now dir) (now table) (now heads) (at .since) (at .rows) k concerns × Writable (now table) (now buckets) n (at .room) × (at .rows ≤ n)
-        × Scratch (now seen) (now answers) (now found) ⌝ }
+        × Scratch (now seen) (now answers) (now found) × Keeps (now words) (now dir) (now table) (now kept) (at .rows) ⌝ }
     ensures { λ r. ⌜ Scratch (now (seen .exit)) (now (answers .exit)) (now (found .exit))
         × ((w : HeadAsked (now (words .entry)) (now (dir .entry)) (now (table .entry)) (now (heads .entry)) (at .since) (at .rows) k)
         → Stepped (w .situation .p) (keysOf (now (table .entry)) (at .rows)) (at .number) (at .room) n (now (table .entry)) (now (buckets .entry))
-        (Keyed (w .situation .p) (NewIn modes (w .situation .p) (RowsIn (w .situation .p) (keysOf (now (table .entry)) (at .since))) (RowsIn (w .situation .p) (keysOf (now (table .entry)) (at .rows))) k)) r (now (table .exit)) (now (buckets .exit))) ⌝ }
+        (Keyed (w .situation .p) (NewIn modes (w .situation .p) (RowsIn (w .situation .p) (keysOf (now (table .entry)) (at .since))) (RowsIn (w .situation .p) (keysOf (now (table .entry)) (at .rows))) k)) r (now (table .exit)) (now (buckets .exit)))
+        × (r ≤ at .room → Keeps (now (words .entry)) (now (dir .entry)) (now (table .exit)) (now (kept .exit)) (at .rows)) ⌝ }
 {
     if (concerns >> k) % 2 == 1 {
         return clause(
@@ -162,6 +165,7 @@ fn look<'a>(
             seen,
             answers,
             found,
+            kept,
             n,
             at,
             k,
@@ -180,16 +184,18 @@ fn round<'a>(
     seen: &mut [u16],
     answers: &mut [u16],
     found: &mut [u16],
+    kept: &mut [u16],
     headed: &[u64],
     bodied: &[u64],
     at: Round,
 ) -> usize
     requires { ⌜ RoundAsked (now words) (now dir) (now table) (now heads) (now headed) (now bodied) (at .since) (at .rows) × Writable (now table) (now buckets) (at .rows) (at .room)
-        × Scratch (now seen) (now answers) (now found) ⌝ }
+        × Scratch (now seen) (now answers) (now found) × Keeps (now words) (now dir) (now table) (now kept) (at .rows) ⌝ }
     ensures { λ r. ⌜ Scratch (now (seen .exit)) (now (answers .exit)) (now (found .exit))
         × ((w : Situation (now (words .entry)) (now (dir .entry)) (now (table .entry)) (now (heads .entry)) (at .since) (at .rows))
         → Stepped (w .p) (keysOf (now (table .entry)) (at .rows)) (at .number) (at .room) (at .rows) (now (table .entry)) (now (buckets .entry))
-        (Keyed (w .p) (NewGives modes (w .p) (RowsIn (w .p) (keysOf (now (table .entry)) (at .since))) (RowsIn (w .p) (keysOf (now (table .entry)) (at .rows))))) r (now (table .exit)) (now (buckets .exit))) ⌝ }
+        (Keyed (w .p) (NewGives modes (w .p) (RowsIn (w .p) (keysOf (now (table .entry)) (at .since))) (RowsIn (w .p) (keysOf (now (table .entry)) (at .rows))))) r (now (table .exit)) (now (buckets .exit)))
+        × (r ≤ at .room → Keeps (now (words .entry)) (now (dir .entry)) (now (table .exit)) (now (kept .exit)) (at .rows)) ⌝ }
 {
     let room = at.room;
     let clauses = wide(dir[CLAUSE_COUNT]);
@@ -206,6 +212,7 @@ fn round<'a>(
             seen,
             answers,
             found,
+            kept,
             rows,
             at,
             k,
@@ -229,9 +236,10 @@ pub fn rounds<'a>(
     seen: &mut [u16],
     answers: &mut [u16],
     found: &mut [u16],
+    kept: &mut [u16],
     room: usize,
 ) -> usize
-    requires { ⌜ RoundsAsked (now words) (now dir) (now table) (now buckets) (now heads) (now seen) (now answers) (now found) room ⌝ }
+    requires { ⌜ RoundsAsked (now words) (now dir) (now table) (now buckets) (now heads) (now seen) (now answers) (now found) (now kept) room ⌝ }
     ensures { λ r. ⌜ ((p : Program) → Setting (now (words .entry)) (now (dir .entry)) p → Finished p room r (now (table .exit))) ⌝ }
 {
     let mut headed = [0u64; 64];
@@ -261,6 +269,7 @@ pub fn rounds<'a>(
             seen,
             answers,
             found,
+            kept,
             &headed,
             &bodied,
             at,
