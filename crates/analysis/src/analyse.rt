@@ -52,6 +52,7 @@ pub fn tabled(words: &[u16], dir: &mut [u16], table: &mut [u16]) -> Reply
     let mut seen = [0u16; 4096];
     let mut answers = [0u16; 4096];
     let mut found = [0u16; 4096];
+    let mut kept = [0u16; 2112];
     let room = room_in(table.len());
     directory(words, dir);
     let rows = rounds(
@@ -63,6 +64,7 @@ pub fn tabled(words: &[u16], dir: &mut [u16], table: &mut [u16]) -> Reply
         &mut seen,
         &mut answers,
         &mut found,
+        &mut kept,
         room,
     );
     if room < rows {
