@@ -1,7 +1,3 @@
--- The laws of a clause in a round: its places, the marks on its head and those that are kept, and what it ends in.
+-- The laws of a clause's places.
 pub mod MiddlePlaces
-pub mod ClauseRows
-pub mod HeadMarks
-pub mod KeptWords
-pub mod KeptMarks
-pub mod Endings
+pub mod ClausePlaces

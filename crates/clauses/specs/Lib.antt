@@ -1,3 +1,2 @@
--- What a round asks of a clause, what it gives, and what is kept for the next.
+-- What a round asks of a clause, and what it gives.
 pub mod Clauses
-pub mod Keeping

@@ -15,8 +15,9 @@ ghost use Rattle.table.specs.NewRows.{NewIn};
 ghost use Rattle.table.specs.RoundKeys.{Keyed};
 ghost use Rattle.steps.specs.Situation.{HeadAsked};
 ghost use Rattle.steps.specs.Steps.{RowsIn, Writable, Stepped};
-ghost use Rattle.clauses.specs.Clauses.{MiddlesAsked, PastPlaces, Places, Scratch};
-ghost use Rattle.clauses.specs.Keeping.{Keeps};
+ghost use Rattle.ends.specs.Ends.{Scratch};
+ghost use Rattle.clauses.specs.Clauses.{MiddlesAsked, PastPlaces, Places};
+ghost use Rattle.ends.specs.Keeping.{Keeps};
 
 // The middle places of a clause, whose body atoms are first..last.
 fn middle_places<'a>(

@@ -1,13 +1,13 @@
 // The end of a clause in a round, with the marks on its head that are kept: old marks are not made again for the sake of a new call row.
-use crate::ends::end_all;
-use crate::ends::head_marks;
-use crate::keep::KEPT_ROWS;
-use crate::keep::KEPT_SET;
-use crate::keep::KEPT_VARS;
-use crate::keep::keep;
-use crate::keep::recall;
 use directory::layout::CLAUSE_HEAD;
 use directory::layout::CLAUSE_VARS;
+use ends::ends::end_all;
+use ends::ends::head_marks;
+use ends::keep::KEPT_ROWS;
+use ends::keep::KEPT_SET;
+use ends::keep::KEPT_VARS;
+use ends::keep::keep;
+use ends::keep::recall;
 use rows::zeros::clear;
 use solving::solve::solve;
 use steps::place::Round;
@@ -23,8 +23,8 @@ ghost use Rattle.rows.specs.Rows.{keysOf};
 ghost use Rattle.steps.specs.Situation.{HeadAsked};
 ghost use Rattle.steps.specs.Steps.{Writable, Stepped};
 ghost use Rattle.steps.specs.Heads.{HeadMark};
-ghost use Rattle.clauses.specs.Clauses.{EndsBy, EndsSince, AtEnd, Scratch};
-ghost use Rattle.clauses.specs.Keeping.{keptVars, keptWords, knownOf, Keeps, Gained};
+ghost use Rattle.ends.specs.Ends.{EndsBy, EndsSince, AtEnd, Scratch};
+ghost use Rattle.ends.specs.Keeping.{keptVars, keptWords, knownOf, Keeps, Gained};
 
 // The kept marks on the head of clause k to the new call rows, where there are any.
 fn end_known<'a>(

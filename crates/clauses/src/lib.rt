@@ -1,5 +1,3 @@
 // A clause in a round: the combinations with a row of the last round, place by place, and its end.
 pub mod clauses;
 pub mod ending;
-pub mod ends;
-pub mod keep;

@@ -36,7 +36,7 @@ use Rattle.steps.proofs.ShapeAtoms.{shape-is-atom}
 use Rattle.steps.proofs.SlotRows.{in-slot}
 use Rattle.rounds.specs.Standing.{Stands}
 use Rattle.rounds.specs.Active.{Concerns, by-call, by-cont, by-solution, Noted, HeadsNoted, BodiesNoted, ShapeAsked}
-use Rattle.clauses.proofs.HeadMarks.{one-predicate}
+use Rattle.ends.proofs.HeadMarks.{one-predicate}
 
 -- a round looks at nothing in a clause that no new row concerns
 module _ {words dir : List ℕ} {p : Program} (s : Setting words dir p) (T₀ T : Row ℕ → Type 0) (k : ℕ)

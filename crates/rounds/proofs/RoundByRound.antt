@@ -36,8 +36,8 @@ use Rattle.steps.specs.Steps.{RowsIn, Given, Writable, Grew, Overfull, Stepped}
 use Rattle.steps.specs.Situation.{Setting, Situation}
 use Rattle.rounds.specs.Rounds.{InRounds, Complete}
 use Rattle.steps.proofs.Stepping.{keys-stay}
-use Rattle.clauses.specs.Keeping.{Keeping}
-use Rattle.clauses.proofs.KeptMarks.{keeping-stays}
+use Rattle.ends.specs.Keeping.{Keeping}
+use Rattle.ends.proofs.KeptMarks.{keeping-stays}
 
 -- the rows so far are those of round k, those before `since` the rows of the round before
 pub record Rounding (p : Program) (table buckets heads : List ℕ) (room since rows number : ℕ) : Type 0 where

@@ -21,7 +21,7 @@ use Rattle.steps.specs.Situation.{Situation, HeadAsked}
 use Rattle.rounds.specs.Active.{Concerns, LookAsked}
 use Rattle.steps.proofs.Stepping.{keys-stay, grew-none, stepped-then, stepped-must}
 use Rattle.clauses.proofs.MiddlePlaces.{below-one-more}
-use Rattle.clauses.proofs.ClauseRows.{stands-on}
+use Rattle.ends.proofs.ClauseRows.{stands-on}
 
 -- words say one program, so that what is asked for it holds for every situation
 pub asked-every : {words dir table heads : List ℕ} {since rows k concerns : ℕ} → LookAsked words dir table heads since rows k concerns

@@ -13,8 +13,8 @@ use Rattle.table.specs.Table.{MoreThan}
 use Rattle.table.specs.Keys.{rowOf}
 use Rattle.table.specs.RoundKeys.{RoundKeys}
 use Rattle.steps.specs.Situation.{Setting}
-use Rattle.clauses.specs.Clauses.{Scratch}
-use Rattle.clauses.specs.Keeping.{keptWords}
+use Rattle.ends.specs.Ends.{Scratch}
+use Rattle.ends.specs.Keeping.{keptWords}
 
 -- "Round 0 has one row, the goal's call": nothing is there before it
 pub record RoundsAsked (words dir table buckets heads seen answers found kept : List ℕ) (room : ℕ) : Type 0 where

@@ -3,8 +3,9 @@ use native.Mathlib.Omega.{arith}
 use mathlib.Core.Path.{_∙_}
 use mathlib.Core.Logic.{inr}
 use Rattle.steps.proofs.Stepping.{stepped-within, stepped-past}
-use Rattle.clauses.proofs.ClauseRows.{stands-on, clause-ends}
-use Rattle.clauses.proofs.KeptMarks.{step-keeps, keeps-all}
+use Rattle.ends.proofs.ClauseRows.{stands-on}
+use Rattle.clauses.proofs.ClausePlaces.{clause-ends}
+use Rattle.ends.proofs.KeptMarks.{step-keeps, keeps-all}
 use borrow.Author.Needs.{needs}
 use Rattle.clauses.proofs.clauses.clause.Statement.{statement}
 use Rattle.clauses.proofs.clauses.clause.Tie as tie

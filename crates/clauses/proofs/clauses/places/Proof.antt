@@ -2,7 +2,8 @@
 use native.Mathlib.Omega.{arith}
 use mathlib.Core.Logic.{inl, inr}
 use Rattle.steps.proofs.Stepping.{stepped-within, stepped-past}
-use Rattle.clauses.proofs.ClauseRows.{clause-few, no-body, some-body, end-after, first-asked, middles-asked, stands-on, no-places, all-places}
+use Rattle.ends.proofs.ClauseRows.{clause-few, no-body, some-body, end-after, first-asked, stands-on}
+use Rattle.clauses.proofs.ClausePlaces.{middles-asked, no-places, all-places}
 use borrow.Author.Needs.{needs}
 use Rattle.clauses.proofs.clauses.places.Statement.{statement}
 use Rattle.clauses.proofs.clauses.places.Tie as tie

@@ -1,8 +1,8 @@
 -- `end_clause` meets its contract, whether the marks of the clause are kept or not. Assumes nothing.
 use native.Mathlib.Omega.{arith}
 use borrow.Author.Needs.{needs}
-use Rattle.clauses.proofs.ClauseRows.{clause-few}
-use Rattle.clauses.proofs.KeptMarks.{step-keeps, keeps-all}
+use Rattle.ends.proofs.ClauseRows.{clause-few}
+use Rattle.ends.proofs.KeptMarks.{step-keeps, keeps-all}
 use Rattle.clauses.proofs.ending.end_clause.Statement.{statement}
 use Rattle.clauses.proofs.ending.end_clause.Tie as tie
 

@@ -3,9 +3,9 @@ use native.Mathlib.Omega.{arith}
 use borrow.Author.Needs.{needs}
 use mathlib.Core.Logic.{inr}
 use Rattle.steps.proofs.Stepping.{stepped-within, stepped-past}
-use Rattle.clauses.proofs.ClauseRows.{clause-few}
-use Rattle.clauses.proofs.KeptMarks.{step-keeps, keeps-all, keeping-gained}
-use Rattle.clauses.proofs.Endings.{kept-asked, kept-ends}
+use Rattle.ends.proofs.ClauseRows.{clause-few}
+use Rattle.ends.proofs.KeptMarks.{step-keeps, keeps-all, keeping-gained}
+use Rattle.ends.proofs.Endings.{kept-asked, kept-ends}
 use Rattle.clauses.proofs.ending.end_kept.Statement.{statement}
 use Rattle.clauses.proofs.ending.end_kept.Tie as tie
 

@@ -8,10 +8,10 @@ use lib.Dec.{T}
 use Rattle.directory.specs.Directory.{predicateOf}
 use Rattle.steps.specs.Since.{SinceIn}
 use Rattle.steps.proofs.Stepping.{stepped-none, stepped-must}
-use Rattle.clauses.proofs.ClauseRows.{clause-few, head-there, head-predicate, predicate-asked}
-use Rattle.clauses.proofs.HeadMarks.{solve-asked, ends-solved, late-found}
-use Rattle.clauses.proofs.KeptWords.{recalled-cleared}
-use Rattle.clauses.proofs.KeptMarks.{none-known, recalled-marked}
+use Rattle.ends.proofs.ClauseRows.{clause-few, head-there, head-predicate, predicate-asked}
+use Rattle.ends.proofs.HeadMarks.{solve-asked, ends-solved, late-found}
+use Rattle.ends.proofs.KeptWords.{recalled-cleared}
+use Rattle.ends.proofs.KeptMarks.{none-known, recalled-marked}
 use Rattle.clauses.proofs.ending.end_known.Statement.{statement}
 use Rattle.clauses.proofs.ending.end_known.Tie as tie
 

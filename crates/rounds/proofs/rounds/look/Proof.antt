@@ -2,7 +2,7 @@
 use native.Mathlib.Omega.{arith}
 use borrow.Author.Needs.{needs}
 use Rattle.steps.proofs.Stepping.{stepped-none}
-use Rattle.clauses.proofs.ClauseRows.{clause-few}
+use Rattle.ends.proofs.ClauseRows.{clause-few}
 use Rattle.rounds.proofs.ActiveClauses.{not-looked}
 use Rattle.rounds.proofs.RoundClauses.{asked-every}
 use Rattle.rounds.proofs.rounds.look.Statement.{statement}

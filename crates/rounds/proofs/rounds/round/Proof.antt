@@ -12,8 +12,8 @@ use Rattle.table.specs.NewRows.{NewIn}
 use Rattle.table.specs.RoundKeys.{Keyed}
 use Rattle.steps.specs.Situation.{Situation}
 use Rattle.steps.specs.Steps.{RowsIn, Grew}
-use Rattle.clauses.specs.Clauses.{Scratch}
-use Rattle.clauses.specs.Keeping.{Keeps}
+use Rattle.ends.specs.Ends.{Scratch}
+use Rattle.ends.specs.Keeping.{Keeps}
 use Rattle.steps.proofs.Stepping.{stepped-within, stepped-past}
 use Rattle.rounds.proofs.RoundClauses.{clauses-begin, look-asked, clauses-next, clauses-end}
 use Rattle.rounds.proofs.rounds.round.Statement.{statement}

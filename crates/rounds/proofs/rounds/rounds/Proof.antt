@@ -8,9 +8,9 @@ use lib.ListN.{length}
 use Rattle.program.specs.Program.{Program}
 use Rattle.rows.proofs.Adding.{empty-store}
 use Rattle.steps.specs.Situation.{Setting}
-use Rattle.clauses.specs.Clauses.{Scratch}
-use Rattle.clauses.specs.Keeping.{Keeps}
-use Rattle.clauses.proofs.KeptMarks.{keeping-none, keeping-later}
+use Rattle.ends.specs.Ends.{Scratch}
+use Rattle.ends.specs.Keeping.{Keeps}
+use Rattle.ends.proofs.KeptMarks.{keeping-none, keeping-later}
 use Rattle.steps.proofs.Stepping.{stepped-within, stepped-past}
 use Rattle.rounds.proofs.RoundByRound.{Rounding, strictly, no-room, no-room-by-one, round-zero-there, linked-situation, linked-writable, linked-keeps, rounds-overfull, rounds-stop, rounds-next}
 use Rattle.rounds.proofs.rounds.rounds.Statement.{statement}

@@ -33,7 +33,7 @@ use Rattle.steps.specs.Steps.{RowsIn}
 use Rattle.steps.specs.Situation.{HeadAsked}
 use Rattle.steps.specs.Since.{SinceIn}
 use Rattle.steps.specs.Heads.{ReachedSince, HeadMark, Marked, Solved, solved, SolveAsked}
-use Rattle.clauses.specs.Clauses.{EndsBy, EndsSince}
+use Rattle.ends.specs.Ends.{EndsBy, EndsSince}
 use Rattle.steps.proofs.ShapeAtoms.{shape-is-atom}
 use Rattle.steps.proofs.Meetings.{setting-within}
 use Rattle.steps.proofs.Bodies.{head-is-atom}

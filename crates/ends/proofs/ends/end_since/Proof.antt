@@ -8,11 +8,11 @@ use mathlib.Core.Path.{ap, _∙_}
 use lib.ListN.{length, length-replicate}
 use Rattle.rows.specs.MaskSet.{setWords}
 use Rattle.steps.proofs.Stepping.{stepped-none, stepped-must}
-use Rattle.clauses.proofs.ClauseRows.{clause-few, vars-few, asked-since, vars-head}
-use Rattle.clauses.proofs.HeadMarks.{marked-empty, solve-asked, found-words, none-found, ends-solved, nothing-ends}
+use Rattle.ends.proofs.ClauseRows.{clause-few, vars-few, asked-since, vars-head}
+use Rattle.ends.proofs.HeadMarks.{marked-empty, solve-asked, found-words, none-found, ends-solved, nothing-ends}
 use Rattle.rows.proofs.ClearedMarks.{marks-shifted, cleared-empty}
-use Rattle.clauses.proofs.ends.end_since.Statement.{statement}
-use Rattle.clauses.proofs.ends.end_since.Tie as tie
+use Rattle.ends.proofs.ends.end_since.Statement.{statement}
+use Rattle.ends.proofs.ends.end_since.Tie as tie
 
 head-marks-requires : tie.Need-head-marks-requires
 head-marks-requires c κs =

@@ -18,7 +18,7 @@ ghost use Rattle.rows.specs.MaskSet.{setWords};
 ghost use Rattle.steps.specs.Situation.{HeadAsked};
 ghost use Rattle.steps.specs.Steps.{Writable, Stepped};
 ghost use Rattle.steps.specs.Heads.{HeadMark, Marked, Told};
-ghost use Rattle.clauses.specs.Clauses.{EndsSince, AtEnd, Scratch};
+ghost use Rattle.ends.specs.Ends.{EndsSince, AtEnd, Scratch};
 
 // Marks on the head of clause k that result from rows since `since`. Says whether there are any.
 pub fn head_marks<'a>(

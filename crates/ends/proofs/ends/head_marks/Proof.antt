@@ -1,9 +1,9 @@
 -- `head_marks` meets its contract: without a body the marks are those that call rows pass, else those past the last body atom. Assumes nothing.
 use native.Mathlib.Omega.{arith}
 use borrow.Author.Needs.{needs}
-use Rattle.clauses.proofs.ClauseRows.{clause-few, vars-few, no-body, some-body, end-after, last-asked, last-marked}
-use Rattle.clauses.proofs.ends.head_marks.Statement.{statement}
-use Rattle.clauses.proofs.ends.head_marks.Tie as tie
+use Rattle.ends.proofs.ClauseRows.{clause-few, vars-few, no-body, some-body, end-after, last-asked, last-marked}
+use Rattle.ends.proofs.ends.head_marks.Statement.{statement}
+use Rattle.ends.proofs.ends.head_marks.Tie as tie
 
 add-wide : tie.Need-add-wide
 add-wide c = let s = c .before .before .before .before .before .before .before in let few = clause-few _ _ _ _ _ _ _ (s .pre .0) in omega (arith, few .0, few .1)

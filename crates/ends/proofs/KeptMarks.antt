@@ -28,11 +28,11 @@ use Rattle.steps.specs.Situation.{Setting, HeadAsked}
 use Rattle.steps.specs.Heads.{HeadMark, Marked}
 use Rattle.steps.proofs.Stepping.{keys-stay, stepped-within}
 use Rattle.steps.proofs.Meetings.{setting-within}
-use Rattle.clauses.specs.Clauses.{EndsBy}
-use Rattle.clauses.specs.Keeping.{keptVars, keptMasks, keptSet, keptRows, keptWords, KeptIn, knownOf, Keeping, Keeps, Recalled, Gained}
-use Rattle.clauses.proofs.ClauseRows.{vars-head}
-use Rattle.clauses.proofs.HeadMarks.{all-new, since-first}
-use Rattle.clauses.proofs.KeptWords.{zero-word}
+use Rattle.ends.specs.Ends.{EndsBy}
+use Rattle.ends.specs.Keeping.{keptVars, keptMasks, keptSet, keptRows, keptWords, KeptIn, knownOf, Keeping, Keeps, Recalled, Gained}
+use Rattle.ends.proofs.ClauseRows.{vars-head}
+use Rattle.ends.proofs.HeadMarks.{all-new, since-first}
+use Rattle.ends.proofs.KeptWords.{zero-word}
 
 -- marks result from rows that are known alone, or from one that is not
 pub reached-known-or-new : (p : Program) (known ks : List ℕ) {k i N : ℕ} → Reached modes p (RowsIn p ks) k i N

@@ -12,7 +12,7 @@ use Rattle.terms.proofs.Masks.{has-none, has-or}
 use Rattle.rows.specs.Rows.{masks}
 use Rattle.rows.specs.MaskSet.{setWords, InSet}
 use Rattle.rows.proofs.ClearedMarks.{cleared-empty}
-use Rattle.clauses.specs.Keeping.{keptSet, keptMasks, KeptIn, Recalled, Gained}
+use Rattle.ends.specs.Keeping.{keptSet, keptMasks, KeptIn, Recalled, Gained}
 
 -- words that are 0
 pub zero-word : (n i : ℕ) → _≡_ {A = ℕ} (getD (replicate n 0) i 0) 0

@@ -2,10 +2,10 @@
 use Prim.Native.Nat.{_-_, _≤_}
 use native.Mathlib.Omega.{arith}
 use borrow.Author.Needs.{needs}
-use Rattle.clauses.specs.Keeping.{keptSet}
-use Rattle.clauses.proofs.KeptWords.{Beside, beside-none, beside-one, beside-all}
-use Rattle.clauses.proofs.keep.keep.Statement.{statement}
-use Rattle.clauses.proofs.keep.keep.Tie as tie
+use Rattle.ends.specs.Keeping.{keptSet}
+use Rattle.ends.proofs.KeptWords.{Beside, beside-none, beside-one, beside-all}
+use Rattle.ends.proofs.keep.keep.Statement.{statement}
+use Rattle.ends.proofs.keep.keep.Tie as tie
 
 abbrev Inv-loop : tie.InvT-loop
 Inv-loop found k kept₀ i₀ kept i = (i ≤ keptSet) × Beside found k i kept₀ kept

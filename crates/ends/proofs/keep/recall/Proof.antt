@@ -4,10 +4,10 @@ use native.Mathlib.Omega.{arith}
 use borrow.Author.Needs.{needs}
 use mathlib.Core.Path.{_≡_, refl, _∙_}
 use lib.ListN.{length, length-set}
-use Rattle.clauses.specs.Keeping.{keptSet}
-use Rattle.clauses.proofs.KeptWords.{Copied, copied-none, copied-one, copied-all}
-use Rattle.clauses.proofs.keep.recall.Statement.{statement}
-use Rattle.clauses.proofs.keep.recall.Tie as tie
+use Rattle.ends.specs.Keeping.{keptSet}
+use Rattle.ends.proofs.KeptWords.{Copied, copied-none, copied-one, copied-all}
+use Rattle.ends.proofs.keep.recall.Statement.{statement}
+use Rattle.ends.proofs.keep.recall.Tie as tie
 
 abbrev Inv-loop : tie.InvT-loop
 Inv-loop kept k found₀ i₀ found i = (i ≤ keptSet) × (length found ≡ length found₀) × Copied kept k i found

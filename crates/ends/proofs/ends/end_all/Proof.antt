@@ -10,10 +10,10 @@ use lib.Dec.{T}
 use Rattle.directory.specs.Directory.{predicateOf}
 use Rattle.steps.specs.Since.{SinceIn}
 use Rattle.steps.proofs.Stepping.{stepped-within, stepped-past}
-use Rattle.clauses.proofs.ClauseRows.{clause-few, head-there, head-predicate, predicate-asked, stands-on}
-use Rattle.clauses.proofs.Endings.{ends-first, ends-early, ends-late}
-use Rattle.clauses.proofs.ends.end_all.Statement.{statement}
-use Rattle.clauses.proofs.ends.end_all.Tie as tie
+use Rattle.ends.proofs.ClauseRows.{clause-few, head-there, head-predicate, predicate-asked, stands-on}
+use Rattle.ends.proofs.Endings.{ends-first, ends-early, ends-late}
+use Rattle.ends.proofs.ends.end_all.Statement.{statement}
+use Rattle.ends.proofs.ends.end_all.Tie as tie
 
 end-since-requires : tie.Need-end-since-requires
 end-since-requires c κs = (c .before .before .before .before .before .before .before .before .before .before .before .before .before .pre .0, c .before .before .before .before .before .before .before .before .before .before .before .before .before .pre .1, c .before .before .before .before .before .before .before .before .before .before .before .before .before .pre .2, c .before .before .before .before .before .before .before .before .before .before .before .before .before .pre .3, c .before .before .before .before .before .before .before .before .before .before .before .before .before .pre .0 .situation .chains .new, omega arith)

@@ -3,7 +3,7 @@ ghost use mathlib.Core.Path.{_≡_};
 ghost use Prim.Native.Nat.{_<_};
 ghost use lib.ListN.{length, replicate};
 ghost use Rattle.rows.specs.MaskSet.{setWords, InSet};
-ghost use Rattle.clauses.specs.Keeping.{keptWords, Recalled, Gained};
+ghost use Rattle.ends.specs.Keeping.{keptWords, Recalled, Gained};
 
 pub const KEPT_VARS: usize = 9;
 

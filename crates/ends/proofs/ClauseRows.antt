@@ -23,7 +23,6 @@ use Rattle.steps.specs.Steps.{RowsIn, Writable, Grew, Stepped}
 use Rattle.steps.specs.Situation.{Situation, BodyOf, FirstAsked, HeadAsked, LastAsked}
 use Rattle.steps.specs.Since.{PredicateAsked}
 use Rattle.steps.specs.Heads.{HeadMark, Marked, Told}
-use Rattle.clauses.specs.Clauses.{MiddlesAsked, PastPlaces, Places, AtEnd}
 use Rattle.steps.proofs.Meetings.{setting-within}
 use Rattle.steps.proofs.Bodies.{first-body, head-is-atom}
 use Rattle.steps.proofs.BodyAtoms.{some-cells, predicate-there}
@@ -173,18 +172,6 @@ module _ (words dir table heads : List ℕ) (since rows k : ℕ) (w : HeadAsked 
             place-is = refl;
           }
 
-      abbrev pub middles-asked : MiddlesAsked words dir table heads since rows start (end - 1)
-      middles-asked =
-          record {
-            situation = w .situation;
-            k = k;
-            clause = w .clause;
-            middles = length (c .body) - 1;
-            all-but-one = sym last-suc;
-            first-is = is-start ∙ first-index;
-            last-is = omega (arith, end-after);
-          }
-
 -- a step for rows with the same keys
 pub stepped-over : (p : Program) (S : List ℕ → List ℕ → ℕ → Type 0) (ks₀ ks₀′ ks ks′ : List ℕ) (round room n n′ : ℕ) (table buckets table′ buckets′ : List ℕ) → ks₀ ≡ ks₀′ → ks ≡ ks′
     → Stepped p ks round room n table buckets (S ks₀ ks) n′ table′ buckets′ → Stepped p ks′ round room n table buckets (S ks₀′ ks′) n′ table′ buckets′
@@ -206,51 +193,3 @@ module _ (words dir heads table₀ buckets₀ : List ℕ) (since rows round room
             };
         clause = w .clause;
       }
-
-  module _ (k : ℕ) (w : HeadAsked words dir table₀ heads since rows k) where
-    abbrev q : Program
-    q = w .situation .p
-
-    abbrev Step : (ℕ → Type 0) → ℕ → List ℕ → List ℕ → Type 0
-    Step Must n′ table buckets = Stepped q (keysOf table₀ rows) round room n table₀ buckets₀ Must n′ table buckets
-
-    abbrev Grown : (ℕ → Type 0) → ℕ → List ℕ → List ℕ → Type 0
-    Grown Must n′ table buckets = Grew q (keysOf table₀ rows) round room n table₀ buckets₀ Must n′ table buckets
-
-    pub no-places : length (w .clause .c .body) ≡ 0 → Writable table₀ buckets₀ n room → Grown (Places q (keysOf table₀ since) (keysOf table₀ rows) k (length (w .clause .c .body))) n table₀ buckets₀
-    no-places e writable = grew-none q (keysOf table₀ rows) round room n table₀ buckets₀ _ writable (λ key (i, b, h). absurd (omega arith))
-
-    module _ (n′ : ℕ) (table buckets : List ℕ) (Must : ℕ → Type 0) (g : Grown Must n′ table buckets) where
-      rows-same : keysOf table rows ≡ keysOf table₀ rows
-      rows-same = keys-stay table₀ table n rows l (g .same-rows)
-
-      since-same : keysOf table since ≡ keysOf table₀ since
-      since-same = keys-stay table₀ table n since (omega (arith, w .situation .chains .new)) (g .same-rows)
-
-      -- the middle places behind the first
-      pub all-places : (start end n″ : ℕ) (table′ buckets′ : List ℕ) (a : start ≡ getD dir (clauseFirst + k) 0) (b : end ≡ getD dir (clauseFirst + k + 1) 0)
-          (some : 0 < length (w .clause .c .body))
-          → ((key : ℕ) → Keyed q (NewGoesOn modes q (RowsIn q (keysOf table₀ since)) (RowsIn q (keysOf table₀ rows)) k 0) key → Must key)
-          → ((m : MiddlesAsked words dir table heads since rows start (end - 1))
-          → Stepped (m .situation .p) (keysOf table rows) round room n′ table buckets (PastPlaces (m .situation .p) (keysOf table since) (keysOf table rows) (m .k) (m .middles)) n″ table′ buckets′)
-          → Step (Places q (keysOf table₀ since) (keysOf table₀ rows) k (length (w .clause .c .body))) n″ table′ buckets′
-      all-places start end n″ table′ buckets′ a b some first middles =
-          stepped-must q (keysOf table₀ rows) round room n n″ table₀ buckets₀ table′ buckets′ _ _ split
-          (stepped-then q (keysOf table₀ rows) round room n n′ n″ table₀ buckets₀ table buckets table′ buckets′ _ _ g
-          (stepped-over q (λ ks₀ ks. PastPlaces q ks₀ ks k (length (w .clause .c .body) - 1)) _ _ _ _ round room n′ n″ table buckets table′ buckets′ since-same rows-same (middles (middles-asked words dir table heads since rows k (stands-on k w Must n′ table buckets g) start end a b some))))
-        where
-          split : (key : ℕ) → Places q (keysOf table₀ since) (keysOf table₀ rows) k (length (w .clause .c .body)) key → Must key ⊎ PastPlaces q (keysOf table₀ since) (keysOf table₀ rows) k (length (w .clause .c .body) - 1) key
-          split key (zero, d, h) = inl (first key h)
-          split key (suc i, d, h) = inr (i, omega arith, h)
-
-      -- and then what the clause ends in
-      pub clause-ends : (n″ : ℕ) (table′ buckets′ : List ℕ)
-          → ((key : ℕ) → Places q (keysOf table₀ since) (keysOf table₀ rows) k (length (w .clause .c .body)) key → Must key)
-          → ((v : HeadAsked words dir table heads since rows k)
-          → Stepped (v .situation .p) (keysOf table rows) round room n′ table buckets (AtEnd (v .situation .p) (keysOf table since) (keysOf table rows) k) n″ table′ buckets′)
-          → Step (Keyed q (NewIn modes q (RowsIn q (keysOf table₀ since)) (RowsIn q (keysOf table₀ rows)) k)) n″ table′ buckets′
-      clause-ends n″ table′ buckets′ places ends =
-          stepped-must q (keysOf table₀ rows) round room n n″ table₀ buckets₀ table′ buckets′ _ _
-          (λ key h. ⊎-elim (λ b. inl (places key b)) inr (by-places q (RowsIn q (keysOf table₀ since)) (RowsIn q (keysOf table₀ rows)) (w .clause .nth-clause) key .1 h))
-          (stepped-then q (keysOf table₀ rows) round room n n′ n″ table₀ buckets₀ table buckets table′ buckets′ _ _ g
-          (stepped-over q (λ ks₀ ks. AtEnd q ks₀ ks k) _ _ _ _ round room n′ n″ table buckets table′ buckets′ since-same rows-same (ends (stands-on k w Must n′ table buckets g))))

@@ -13,11 +13,11 @@ use Rattle.table.specs.NewRows.{new-on-head}
 use Rattle.steps.specs.Steps.{RowsIn, Grew, Stepped}
 use Rattle.steps.specs.Situation.{HeadAsked}
 use Rattle.steps.specs.Since.{SinceIn}
-use Rattle.clauses.specs.Clauses.{AtEnd, EndsBy, EndsSince}
+use Rattle.ends.specs.Ends.{AtEnd, EndsBy, EndsSince}
 use Rattle.steps.proofs.Stepping.{keys-stay, grew-must, stepped-then, stepped-must}
-use Rattle.clauses.proofs.HeadMarks.{keys-within, all-new, late-found}
-use Rattle.clauses.proofs.KeptMarks.{reached-known-or-new, reached-earlier}
-use Rattle.clauses.proofs.ClauseRows.{stepped-over, stands-on}
+use Rattle.ends.proofs.HeadMarks.{keys-within, all-new, late-found}
+use Rattle.ends.proofs.KeptMarks.{reached-known-or-new, reached-earlier}
+use Rattle.ends.proofs.ClauseRows.{stepped-over, stands-on}
 
 -- new marks with all call rows, or all marks with new call rows
 pub at-end : (p : Program) (ks₀ ks : List ℕ) (k key : ℕ) → AtEnd p ks₀ ks k key → EndsSince p ks₀ [] ks k key ⊎ EndsSince p [] ks₀ ks k key
