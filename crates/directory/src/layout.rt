@@ -42,6 +42,4 @@ pub const SHAPE_NEXT: usize = 6477;
 
 pub const SHAPE_CELLS: usize = 7502;
 
-pub const DIR_WORDS: usize = 9550;
-
 pub const PREDICATES_START: usize = 3;

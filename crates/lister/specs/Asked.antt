@@ -30,7 +30,7 @@ pub record ListingAsked (words dir names table : List ℕ) (rows : ℕ) : Type 0
   pub named : namesFor (tabled .p) names ≡ right names
 
 -- the program and its names are sound
-pub record Accepted (words names : List ℕ) : Type 0 where
+pub record SoundBoth (words names : List ℕ) : Type 0 where
   pub p : Program
   pub program : faults words ≡ sound p
   pub named : namesFor p names ≡ right names

@@ -11,7 +11,7 @@ use text::put::clear;
 use writer::names::names_reply;
 ghost use lib.ListN.{length};
 ghost use Rattle.lister.specs.Listed.{Refused, Listed};
-ghost use Rattle.lister.specs.Asked.{Accepted, ListAsked};
+ghost use Rattle.lister.specs.Asked.{SoundBoth, ListAsked};
 
 // "Every refusal zeroes all lent output."
 fn refuse(number: u16, place: usize, table: &mut [u16], out: &mut [u8]) -> Reply
@@ -52,7 +52,7 @@ fn listed(
 
 // Words and names are sound: the table of the program, where it has room, and its listing by the same directory.
 fn accepted(words: &[u16], names: &[u8], table: &mut [u16], out: &mut [u8]) -> Reply
-    requires { ⌜ Accepted (now words) (now names) ⌝ }
+    requires { ⌜ SoundBoth (now words) (now names) ⌝ }
     ensures { λ r. ⌜ Listed (now (words .entry)) (now (names .entry)) (length (now (table .entry))) (length (now (out .entry))) r (now (table .exit)) (now (out .exit)) ⌝ }
 {
     let mut dir = [0u16; 9550];

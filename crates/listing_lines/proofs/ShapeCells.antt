@@ -25,9 +25,6 @@ module _ {words dir names : List ℕ} {s : ℕ} (w : ShapeAsked words dir names 
   shape-few = (omega (arith, nth-below (w .nth-shape), d .shape-count, d .shapes-most), d .size)
 
   module _ (from functions clauses : ℕ) (from-is : from ≡ getD dir (shapeStart + s) 0) (functions-is : functions ≡ getD dir functionsStart 0) (clauses-is : clauses ≡ getD dir clausesStart 0) where
-    pub arities-within : (predicatesStart ≤ functions) × (functions ≤ clauses) × (clauses ≤ length words)
-    arities-within = let (a, b, c) = d .functions-in in (omega arith, omega arith, omega arith)
-
     -- the arities, as the code has them
     abbrev pub predicates : List ℕ
     predicates = take (functions - predicatesStart) (drop predicatesStart words)

@@ -1,4 +1,4 @@
--- Marks passed on the sets that unification leaves, and document 01's reply for each answer.
+-- Marks passed on the sets that unification leaves.
 use Prim.Native.Nat.{ℕ, _+_, _^_, _<_}
 use mathlib.Core.List.{List}
 use mathlib.Core.Logic.{_⊎_}
@@ -29,11 +29,6 @@ AllKnownIn sets from M P to y = (z : ℕ) → Has (getD sets (to + y) 0) z → K
 -- "a variable of B is marked in the result if N marks it, or if all variables ..": B's sets begin at `to`, Q has its variables
 abbrev pub MarkedIn : List ℕ → ℕ → ℕ → ℕ → ℕ → ℕ → ℕ → ℕ → Type 0
 MarkedIn sets from M P to N Q y = Has N y ⊎ (Has Q y × AllKnownIn sets from M P to y)
-
--- the number of document 01's reply for each answer
-abbrev pub replyOf : Passed → ℕ
-replyOf (Mask R) = 0
-replyOf Neither = 10
 
 -- what each answer says: the mask of the marked variables; or that "a mark comes out neither any nor ground", which never is so
 abbrev pub PassedOn : List ℕ → ℕ → ℕ → ℕ → ℕ → ℕ → ℕ → Passed → Type 0

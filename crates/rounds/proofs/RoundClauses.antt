@@ -4,7 +4,7 @@ use native.Mathlib.Omega.{arith}
 use mathlib.Core.Path.{_≡_, sym, subst}
 use mathlib.Core.Logic.{inl}
 use mathlib.Core.List.{List}
-use lib.ListN.{length, getD}
+use lib.ListN.{length}
 use Rattle.terms.specs.Mask.{Has}
 use Rattle.marks.specs.Modes.{modes}
 use Rattle.program.specs.Program.{Nth, Clause, Program}
@@ -38,9 +38,6 @@ module _ (words dir heads table₀ buckets₀ : List ℕ) (since rows round room
 
   pub clauses-begin : Writable table₀ buckets₀ rows room → Grew (w .p) (keysOf table₀ rows) round room rows table₀ buckets₀ (Below Looked 0) rows table₀ buckets₀
   clauses-begin writable = grew-none (w .p) (keysOf table₀ rows) round room rows table₀ buckets₀ _ writable (λ key (i, b, h). absurd (omega arith))
-
-  pub clauses-many : length (w .p .clauses) ≡ getD dir 1 0
-  clauses-many = sym (w .setting .directory .clause-count)
 
   module _ (k n′ : ℕ) (table buckets : List ℕ) (b : k < length (w .p .clauses))
       (g : Grew (w .p) (keysOf table₀ rows) round room rows table₀ buckets₀ (Below Looked k) n′ table buckets) where

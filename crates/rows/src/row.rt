@@ -10,8 +10,6 @@ use terms::walk::wide;
 
 pub const ROW_SIZE: usize = 5;
 
-pub const SLOTS: usize = 3075;
-
 pub const BUCKETS: usize = 4096;
 
 pub const MAX_ROWS: usize = 4096;
