@@ -2,29 +2,29 @@
 use Prim.Native.Nat.{ℕ, _+_, _≤_, _<_}
 use native.Mathlib.Omega.{arith}
 use native.Mathlib.Numerals.{add-one}
-use mathlib.Core.Path.{_≡_, refl, sym, _∙_}
+use mathlib.Core.Path.{_≡_, refl, _∙_}
 use mathlib.Core.Bool.{true, false}
 use mathlib.Core.Logic.{_⊎_, inl, inr, ⊎-elim, _↔_}
 use mathlib.Core.List.{List, [], _∷_, _++_, List·Memᴰ, List·Memᴰ·head, List·Memᴰ·cases-cons, List·Memᴰ·append-cases, List·Memᴰ·eq-of-singleton, List·Memᴰ·not-nil, Memᴰ·append-left, Memᴰ·append-right, Memᴰ·cast}
-use lib.ListN.{length, take, set, length-set, length-append}
-use lib.Seq.{take-suc-set, take-set-le, take-take}
+use lib.ListN.{length, take, set, length-set}
+use lib.Seq.{take-suc-set, take-set-le}
 use Rattle.terms.proofs.Masks.{has-decided}
 use Rattle.rows.specs.Rows.{masks}
 use Rattle.rows.specs.MaskSet.{InSet, Inserted}
 use Rattle.program.proofs.OwnShape.{upTo, length-upTo, upTo-has}
 use Rattle.table.specs.Table.{Distinct}
-use Rattle.table.proofs.Distinct.{distinct-length, distinct-append}
+use Rattle.table.proofs.Distinct.{distinct-length}
 use Rattle.joining.specs.Answers.{Listing, Sources, Found}
-use Rattle.joining.specs.AnswerSteps.{More}
 
 -- distinct numbers below n are at most n
 pub distinct-below : (l : List ℕ) (n : ℕ) → Distinct l → ((x : ℕ) → List·Memᴰ x l → x < n) → length l ≤ n
 distinct-below l n d below = rw (length-upTo n) at (distinct-length l (upTo n) d (λ x m. upTo-has n x (below x m)))
 
 -- nothing is added
-pub found-none : {P : ℕ → Type 0} {seen answers : List ℕ} {count : ℕ} → Listing seen answers count → ((q : ℕ) → P q → ⊥) → Found P seen answers count count answers
-found-none l none =
-    record { listing = l; more = omega arith; keeps = refl; members = λ q. (inl, ⊎-elim (λ m. m) (λ h. absurd (none q h))) }
+pub found-none : {P : ℕ → Type 0} {seen answers : List ℕ} {count : ℕ} {answers₀ : List ℕ} → Listing seen answers count → take count answers ≡ take count answers₀
+    → ((q : ℕ) → P q → ⊥) → Found P seen answers count count answers₀
+found-none l e none =
+    record { listing = l; more = omega arith; keeps = e; members = λ q. (λ m. inl (rw e at m), ⊎-elim (λ m. rw e m) (λ h. absurd (none q h))) }
 
 -- the same answers, said otherwise
 pub found-for : {P Q : ℕ → Type 0} {seen answers : List ℕ} {count r : ℕ} {answers₀ : List ℕ} → ((q : ℕ) → P q ↔ Q q)
@@ -37,26 +37,26 @@ found-for same f =
       members = λ q. (λ m. ⊎-elim inl (λ h. inr (same q .0 h)) (f .members q .0 m), ⊎-elim (λ m. f .members q .1 (inl m)) (λ h. f .members q .1 (inr (same q .1 h))));
     }
 
--- answers put behind answers
-pub found-then : {P Q : ℕ → Type 0} {seen answers seen′ answers′ : List ℕ} {count r r′ : ℕ} {answers₀ : List ℕ}
-    → Found P seen answers count r answers₀ → Found Q seen′ answers′ r r′ answers → Found (λ q. P q ⊎ Q q) seen′ answers′ count r′ answers₀
-found-then {answers = answers} {answers′ = answers′} {count = count} {r = r} {answers₀ = answers₀} f g =
+-- a place behind the answers is written
+pub found-aside : {P : ℕ → Type 0} {seen answers : List ℕ} {count r : ℕ} {answers₀ : List ℕ} (i m : ℕ) → r ≤ i → Found P seen answers count r answers₀
+    → Found P seen (set answers i m) count r answers₀
+found-aside {answers = answers} {count = count} {r = r} i m l f =
     record {
-      listing = g .listing;
-      more = omega (arith, f .more, g .more);
-      keeps = kept;
-      members = λ q. (
-        λ m. ⊎-elim (λ b. ⊎-elim inl (λ h. inr (inl h)) (f .members q .0 b)) (λ h. inr (inr h)) (g .members q .0 m),
-        ⊎-elim (λ m. g .members q .1 (inl (f .members q .1 (inl m))))
-            (⊎-elim (λ h. g .members q .1 (inl (f .members q .1 (inr h)))) (λ h. g .members q .1 (inr h))),
-      );
+      listing =
+          record {
+            set-size = f .listing .set-size;
+            list-size = rw length-set (f .listing .list-size);
+            within = f .listing .within;
+            small = rw front (f .listing .small);
+            same = rw front (f .listing .same);
+          };
+      more = f .more;
+      keeps = take-set-le count answers i m (omega (arith, f .more)) ∙ f .keeps;
+      members = rw front (f .members);
     }
   where
-    front : (l : List ℕ) → take count (take r l) ≡ take count l
-    front l = take-take count r l (f .more)
-
-    kept : take count answers′ ≡ take count answers₀
-    kept = sym (front answers′) ∙ (rw (g .keeps) (front answers) ∙ f .keeps)
+    front : take r (set answers i m) ≡ take r answers
+    front = take-set-le r answers i m l
 
 module _ {P : ℕ → Type 0} {seen answers : List ℕ} {count r : ℕ} {answers₀ : List ℕ} {m : ℕ} (f : Found P seen answers count r answers₀) (small : m < masks) where
   -- the answer is there already
@@ -121,36 +121,21 @@ module _ {P : ℕ → Type 0} {seen answers : List ℕ} {count r : ℕ} {answers
         ⊎-elim (λ h. Memᴰ·append-left (m ∷ []) h) (λ e. Memᴰ·append-right (take r answers) (List·Memᴰ·head e)),
       )
 
--- no source yet
-pub more-none : {F : ℕ → Type 0} {count : ℕ} → More F count count
-more-none = record { sources = []; distinct = tt; as-many = omega arith; of = λ x m. absurd (List·Memᴰ·not-nil m) }
-
-pub more-for : {F G : ℕ → Type 0} {count r : ℕ} → ((x : ℕ) → F x → G x) → More F count r → More G count r
-more-for wider w = record { sources = w .sources; distinct = w .distinct; as-many = w .as-many; of = λ x m. wider x (w .of x m) }
-
--- one source more
-pub more-one : {F : ℕ → Type 0} {count r : ℕ} (y : ℕ) → (F y → ⊥) → More F count r → More (λ x. F x ⊎ (x ≡ y)) count (r + 1)
-more-one y new w =
-    record {
-      sources = y ∷ w .sources;
-      distinct = (λ m. new (w .of y m), w .distinct);
-      as-many = omega (arith, w .as-many);
-      of = λ x m. ⊎-elim inr (λ h. inl (w .of x h)) (List·Memᴰ·cases-cons m);
-    }
-
 pub sources-for : {F G : ℕ → Type 0} {rows count : ℕ} → ((x : ℕ) → x < rows → F x → G x) → Sources F rows count → Sources G rows count
 sources-for wider s =
     record { sources = s .sources; distinct = s .distinct; as-many = s .as-many; below = λ x m. let b = s .below x m in (b .0, wider x (b .0) (b .1)) }
 
--- more sources join those that were there
-pub sources-more : {F G : ℕ → Type 0} {rows count r : ℕ} → ((x : ℕ) → G x → F x → ⊥) → ((x : ℕ) → G x → x < rows) → Sources F rows count → More G count r
-    → Sources (λ x. F x ⊎ G x) rows r
-sources-more apart below s w =
+-- no source yet, and one more
+pub sources-none : {F : ℕ → Type 0} {rows : ℕ} → Sources F rows 0
+sources-none = record { sources = []; distinct = tt; as-many = refl; below = λ x m. absurd (List·Memᴰ·not-nil m) }
+
+pub sources-one : {F : ℕ → Type 0} {rows count n : ℕ} (y : ℕ) → y < rows → (F y → ⊥) → n ≡ count + 1 → Sources F rows count → Sources (λ x. F x ⊎ (x ≡ y)) rows n
+sources-one y l new e s =
     record {
-      sources = s .sources ++ w .sources;
-      distinct = distinct-append (s .sources) (w .sources) (s .distinct) (w .distinct) (λ x m m′. apart x (w .of x m) (s .below x m′ .1));
-      as-many = rw length-append (omega (arith, s .as-many, w .as-many));
-      below = λ x m. ⊎-elim (λ h. let b = s .below x h in (b .0, inl (b .1))) (λ h. let o = w .of x h in (below x o, inr o)) (List·Memᴰ·append-cases (s .sources) m);
+      sources = y ∷ s .sources;
+      distinct = (λ m. new (s .below y m .1), s .distinct);
+      as-many = omega (arith, s .as-many);
+      below = λ x m. ⊎-elim (λ h. (rw h l, inr h)) (λ h. let b = s .below x h in (b .0, inl (b .1))) (List·Memᴰ·cases-cons m);
     }
 
 -- there are no more answers than rows

@@ -2,7 +2,7 @@
 use Prim.Native.Nat.{ℕ, _+_, _<_, _≤_}
 use native.Mathlib.Omega.{arith}
 use mathlib.Core.Path.{subst}
-use mathlib.Core.Logic.{_↔_}
+use mathlib.Core.Logic.{inl, inr, ⊎-elim, _↔_}
 use mathlib.Core.List.{List}
 use lib.ListN.{length, getD}
 use Rattle.terms.specs.Term.{Term}
@@ -17,12 +17,10 @@ use Rattle.marks.proofs.Passing.{marked-under}
 use Rattle.program.proofs.ShapeLaws.{nth-same}
 use Rattle.rows.specs.Rows.{masks, maskAt}
 use Rattle.directory.specs.Layout.{shapeVars}
-use Rattle.table.specs.Keys.{firstSolution}
 use Rattle.steps.specs.Situation.{Meeting, Unifying}
-use Rattle.joining.specs.Answers.{Found}
-use Rattle.joining.specs.AnswerSteps.{Own, Gathered, More, MetAsked, AnswerOf}
+use Rattle.joining.specs.AnswerSteps.{Gathered, AnswerOf, Sided, ShapeAsked, GivenFrom, MetAsked, GivenWith}
 use Rattle.steps.proofs.ShapeLinks.{shape-below}
-use Rattle.joining.proofs.AnswerLists.{found-none, found-for, more-none}
+use Rattle.joining.proofs.AnswerSides.{sided-for}
 
 -- marks passed through a unifier stand on the sets of every most general one
 pub pass-on-sets : {S A : Term} {sets : List ℕ} {here there M q : ℕ} → Unifying S A sets → VariablesOf S here → VariablesOf A there → Pass S M A 0 q
@@ -39,8 +37,8 @@ pass-on-sets {S} {A} {sets} {here} {there} {M} {q} u vars vars′ pass = marks-f
           λ h. marked-under M M 0 0 (id M) (id 0) (u .most-general) (pass .α) (pass .β) (pass .unifier .unifies) y (m .0 h),
         )
 
-module _ {words dir table seen answers : List ℕ} {s newest start cells there from to count : ℕ}
-    (w : MetAsked words dir table seen answers s newest start cells there from to count) where
+module _ {words dir table seen answers : List ℕ} {s newest start cells there from since fresh older : ℕ}
+    (w : MetAsked words dir table seen answers s newest start cells there from since fresh older) where
   abbrev m : Meeting words dir s start cells
   m = w .meeting
 
@@ -57,38 +55,33 @@ module _ {words dir table seen answers : List ℕ} {s newest start cells there f
         marked = marks-for here (λ v. let e = m .setting .directory .shape (m .nth-shape) .shape-variables v in (e .1, e .0)) h;
       }
 
+  -- what the walk over the shape's rows asks
+  abbrev pub asked : ShapeAsked table seen answers newest from since fresh older
+  asked = record { p = m .p; A = m .A; k = w .k; s = s; rows = w .rows; shape = w .shape }
+
   -- they unify
   pub met-answers : (sets : List ℕ) (here : ℕ) → here < masks → Marks (λ v. v < getD dir (shapeVars + s) 0) here → Unifying (m .S) (m .A) sets
-      → (seen′ answers′ : List ℕ) (r : ℕ)
-      → Found (Gathered table sets here there (w .asked .slot) from to 0) seen′ answers′ count r answers × More (Own table (w .asked .slot) from to) count r
-      → Found (AnswerOf (m .p) table (m .A) from to s) seen′ answers′ count r answers × More (Own table (firstSolution + s) from to) count r
-  met-answers sets here small h u seen′ answers′ r f = (
-    found-for
-        (λ q. (out q, back q)) (rw (w .slot-is) at (f .0)),
-    rw (w .slot-is) at (f .1),
-  )
+      → {seen′ answers′ : List ℕ} {fresh′ older′ : ℕ}
+      → Sided (GivenFrom (m .p) (m .A) (w .k) s (w .rows) table sets here there from 0) since (w .rows) seen′ answers′ fresh′ older′
+      → Sided (GivenWith (m .p) (m .A) (w .k) s (w .rows) table from) since (w .rows) seen′ answers′ fresh′ older′
+  met-answers sets here small h u d = sided-for (λ r q. (⊎-elim inl (λ g. inr (out r q g)), ⊎-elim inl (λ a. inr (back r q a)))) d
     where
       vars : VariablesOf (m .S) here
       vars = shape-variables here small h
 
-      out : (q : ℕ) → Gathered table sets here there (firstSolution + s) from to 0 q → AnswerOf (m .p) table (m .A) from to s q
-      out q g =
-          (m .S, m .nth-shape, g .0, g .2, first-to-second (maskAt table (g .0)) 0 q (u .most-general) (u .sets-right) vars (w .variables-there) (g .3))
+      out : (r q : ℕ) → Gathered table sets here there s from (w .rows) 0 r q → AnswerOf (m .p) table (m .A) from (w .rows) s r q
+      out r q g = (m .S, m .nth-shape, g .1, first-to-second (maskAt table r) 0 q (u .most-general) (u .sets-right) vars (w .variables-there) (g .2))
 
-      back : (q : ℕ) → AnswerOf (m .p) table (m .A) from to s q → Gathered table sets here there (firstSolution + s) from to 0 q
-      back q a =
-          let pass = subst (λ (T : Term). Pass T (maskAt table (a .2)) (m .A) 0 q) (nth-same (a .1) (m .nth-shape)) (a .4) in
-          (a .2, omega arith, a .3, pass-on-sets u vars (w .variables-there) pass)
+      back : (r q : ℕ) → AnswerOf (m .p) table (m .A) from (w .rows) s r q → Gathered table sets here there s from (w .rows) 0 r q
+      back r q a =
+          let pass = subst (λ (T : Term). Pass T (maskAt table r) (m .A) 0 q) (nth-same (a .1) (m .nth-shape)) (a .3) in
+          (omega arith, a .2, pass-on-sets u vars (w .variables-there) pass)
 
   -- they are apart
-  pub apart-answers : Apart (m .S) (m .A)
-      → Found (AnswerOf (m .p) table (m .A) from to s) seen answers count count answers × More (Own table (firstSolution + s) from to) count count
-  apart-answers apart = (
-    found-none (w .asked .listing) none,
-    more-none,
-  )
+  pub apart-answers : Apart (m .S) (m .A) → Sided (GivenWith (m .p) (m .A) (w .k) s (w .rows) table from) since (w .rows) seen answers fresh older
+  apart-answers apart = sided-for (λ r q. (inl, ⊎-elim (λ a. a) (λ a. absurd (none r q a)))) (w .shape .sided)
     where
-      none : (q : ℕ) → AnswerOf (m .p) table (m .A) from to s q → ⊥
-      none q a =
-          let pass = subst (λ (T : Term). Pass T (maskAt table (a .2)) (m .A) 0 q) (nth-same (a .1) (m .nth-shape)) (a .4) in
+      none : (r q : ℕ) → AnswerOf (m .p) table (m .A) from (w .rows) s r q → ⊥
+      none r q a =
+          let pass = subst (λ (T : Term). Pass T (maskAt table r) (m .A) 0 q) (nth-same (a .1) (m .nth-shape)) (a .3) in
           apart (pass .α) (pass .β) (pass .unifier .unifies)

@@ -4,7 +4,9 @@ pub mod JoinSteps
 pub mod PlaceAnswers
 pub mod PlaceSteps
 pub mod AnswerLists
+pub mod AnswerSides
 pub mod AnswersOfShape
 pub mod AnswersMet
 pub mod AnswersOfShapes
+pub mod Settling
 pub mod Forgetting

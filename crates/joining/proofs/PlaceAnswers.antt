@@ -1,10 +1,10 @@
--- The answers to a place's atom, in two listings, and what the cont rows of the place make with them: what rule 2 makes with a new row.
+-- The answers to a place's atom, the fresh ones first, and what the cont rows of the place make with them: what rule 2 makes with a new row.
 use Prim.Native.Nat.{ℕ, suc, _+_, _≤_, _<_}
 use native.Mathlib.Omega.{arith}
 use native.Mathlib.Decide.{decLt}
-use mathlib.Core.Path.{_≡_, refl, sym, ap, subst, _∙_}
+use mathlib.Core.Path.{_≡_, sym, ap, subst, _∙_}
 use mathlib.Core.Logic.{_⊎_, inl, inr, ⊎-elim, _↔_}
-use mathlib.Core.List.{List, [], List·Memᴰ, List·Memᴰ·not-nil}
+use mathlib.Core.List.{List, List·Memᴰ, List·Memᴰ·not-nil}
 use lib.ListN.{length, take, getD, replicate, length-replicate}
 use Rattle.terms.specs.Term.{Term}
 use Rattle.marks.specs.Pass.{Pass}
@@ -13,7 +13,7 @@ use Rattle.program.specs.Program.{Nth, Program}
 use Rattle.program.specs.Shapes.{shapes}
 use Rattle.program.proofs.ShapeLaws.{nth-same}
 use Rattle.program.proofs.Nths.{nth-below}
-use Rattle.rows.specs.Rows.{slots, slotAt, maskAt, keysOf}
+use Rattle.rows.specs.Rows.{slots, maxRows, slotAt, maskAt, keysOf}
 use Rattle.rows.specs.MaskSet.{setWords, InSet}
 use Rattle.rows.proofs.MaskSets.{none-in-zeros}
 use Rattle.table.specs.Rules.{Row, cont, solution}
@@ -22,30 +22,11 @@ use Rattle.table.specs.NewRows.{NewReached}
 use Rattle.table.specs.Keys.{firstCont, firstSolution, bodyIndex, rowAt}
 use Rattle.table.proofs.Keys.{cont-at, solution-at, clause-at, place-at}
 use Rattle.steps.specs.Steps.{RowsIn}
-use Rattle.steps.specs.Situation.{Chains, Situation, BodyOf}
-use Rattle.joining.specs.Answers.{Listing, Sources, Outside, Answer, Found, AnswersAsked}
-use Rattle.joining.specs.Joined.{ContMarks, SlotChain, AnswersThere, Answered, BodyAsked}
+use Rattle.steps.specs.Situation.{Situation, BodyOf}
+use Rattle.joining.specs.Answers.{Listing, Answer, Found, Stands, Parted}
+use Rattle.joining.specs.Joined.{ContMarks, SlotChain, Answered}
 use Rattle.steps.proofs.Bodies.{body-few}
 use Rattle.steps.proofs.SlotRows.{at-slot, in-slot, older-row}
-
--- what is new may be counted from another row
-abbrev pub chains-since : (p : Program) (table heads : List ℕ) (since rows since′ : ℕ) → since′ ≤ rows → Chains p table heads since rows → Chains p table heads since′ rows
-chains-since p table heads since rows since′ l C =
-    record {
-      by-slot = C .by-slot;
-      all-heads = C .all-heads;
-      new = l;
-      most = C .most;
-      fits = C .fits;
-      masks-below = C .masks-below;
-      distinct = C .distinct;
-      regular = C .regular;
-    }
-
-abbrev pub situation-since : {words dir table heads : List ℕ} {since rows : ℕ} (since′ : ℕ) → since′ ≤ rows → Situation words dir table heads since rows
-    → Situation words dir table heads since′ rows
-situation-since {table = table} {heads = heads} {since = since} {rows = rows} since′ l w =
-    record { p = w .p; setting = w .setting; chains = chains-since (w .p) table heads since rows since′ l (w .chains) }
 
 -- nothing is listed yet
 pub listing-none : (seen answers : List ℕ) → seen ≡ replicate setWords 0 → length answers ≡ 4096 → Listing seen answers 0
@@ -58,65 +39,27 @@ listing-none seen answers zeros size =
       same = λ q l. (λ h. absurd (none-in-zeros setWords q (subst (λ (s : List ℕ). InSet s q) zeros h)), λ m. absurd (List·Memᴰ·not-nil m));
     }
 
-module _ {words dir table heads : List ℕ} {since rows j : ℕ} (w : Situation words dir table heads since rows) (b : BodyOf (w .p) j) where
-  pub fresh-asked : (seen answers : List ℕ) → seen ≡ replicate setWords 0 → length answers ≡ 4096 → AnswersAsked words dir table heads seen answers j since rows 0 rows
-  fresh-asked seen answers zeros size =
-      record {
-        situation = situation-since rows (omega arith) w;
-        body = b;
-        ordered = w .chains .new;
-        listing = listing-none seen answers zeros size;
-        sources = record { sources = []; distinct = tt; as-many = refl; below = λ r m. absurd (List·Memᴰ·not-nil m) };
-      }
+-- the answers at the back were listed behind the fresh ones
+pub answered : (p : Program) (table : List ℕ) (A : Term) (from since rows newest : ℕ) → since ≤ rows → (since < newest → from ≡ 0)
+    → {seen answers seen′ answers′ : List ℕ} {fresh older all : ℕ} → Parted p table A from since rows seen answers fresh older
+    → Found (Stands answers older maxRows) seen′ answers′ fresh all answers → Answered p table A since rows newest answers′ fresh all
+answered p table A from since rows newest new from-start {answers = answers} {fresh = fresh} {older = older} parted found =
+    record {
+      fresh-are = λ q. subst (λ (l : List ℕ). List·Memᴰ q l ↔ Answer p table A since rows q) (sym (found .keeps)) (listed q);
+      all-are = λ q m.
+          ⊎-elim (λ n. let (r, f, l, s, S, hs, e, t) = listed q .0 n in (r, omega arith, l, s, S, hs, e, t))
+          (λ n. let (r, f, l, s, S, hs, e, t) = parted .back q .0 n in (r, omega arith, omega arith, s, S, hs, e, t))
+          (found .members q .0 m);
+      all-new = λ late q (r, f, l, s, S, hs, e, t). found .members q .1 (at late q r l s S hs e t (decLt r since));
+    }
+  where
+    listed : (q : ℕ) → List·Memᴰ q (take fresh answers) ↔ Answer p table A since rows q
+    listed q = (λ m. ⊎-elim (λ n. absurd (List·Memᴰ·not-nil n)) (λ a. a) (parted .front .members q .0 m), λ a. parted .front .members q .1 (inr a))
 
-  pub stale-asked : (seen answers answers₀ : List ℕ) (fresh : ℕ)
-      → Found (Answer (w .p) table (b .A) since rows) seen answers 0 fresh answers₀ × Sources (λ x. Outside since rows x ⊎ ((since ≤ x) × (x < rows))) rows fresh
-      → AnswersAsked words dir table heads seen answers j 0 since fresh rows
-  stale-asked seen answers answers₀ fresh (found, s) =
-      record {
-        situation = situation-since since (w .chains .new) w;
-        body = b;
-        ordered = omega arith;
-        listing = found .listing;
-        sources =
-            record {
-              sources = s .sources;
-              distinct = s .distinct;
-              as-many = s .as-many;
-              below = λ r m. let (l, f) = s .below r m in (l, ⊎-elim (λ o. absurd (omega arith)) (λ x. x .0) f);
-            };
-      }
-
-module _ (p : Program) (table : List ℕ) (A : Term) (since rows newest : ℕ) (new : since ≤ rows) where
-  -- the fresh answers alone
-  fresh-listed : (seen answers answers₀ : List ℕ) (fresh : ℕ) → Found (Answer p table A since rows) seen answers 0 fresh answers₀
-      → (q : ℕ) → List·Memᴰ q (take fresh answers) ↔ Answer p table A since rows q
-  fresh-listed seen answers answers₀ fresh found q = (λ m. ⊎-elim (λ n. absurd (List·Memᴰ·not-nil n)) (λ a. a) (found .members q .0 m), λ a. found .members q .1 (inr a))
-
-  pub answered-fresh : (seen answers answers₀ : List ℕ) (fresh : ℕ) → newest ≤ since → Found (Answer p table A since rows) seen answers 0 fresh answers₀
-      → Answered p table A since rows newest answers fresh fresh
-  answered-fresh seen answers answers₀ fresh old found =
-      record {
-        fresh-are = fresh-listed seen answers answers₀ fresh found;
-        all-are = λ q m. let (r, f, l, s, S, hs, e, t) = fresh-listed seen answers answers₀ fresh found q .0 m in (r, omega arith, l, s, S, hs, e, t);
-        all-new = λ l q a. absurd (omega arith);
-      }
-
-  pub answered-all : (seen answers answers₀ seen′ answers′ : List ℕ) (fresh all : ℕ) → Found (Answer p table A since rows) seen answers 0 fresh answers₀
-      → Found (Answer p table A 0 since) seen′ answers′ fresh all answers → Answered p table A since rows newest answers′ fresh all
-  answered-all seen answers answers₀ seen′ answers′ fresh all found found′ =
-      record {
-        fresh-are = λ q. subst (λ (l : List ℕ). List·Memᴰ q l ↔ Answer p table A since rows q) (sym (found′ .keeps)) (fresh-listed seen answers answers₀ fresh found q);
-        all-are = λ q m.
-            ⊎-elim (λ n. let (r, f, l, s, S, hs, e, t) = fresh-listed seen answers answers₀ fresh found q .0 n in (r, omega arith, l, s, S, hs, e, t)) (λ (r, f, l, s, S, hs, e, t). (r, f, omega arith, s, S, hs, e, t))
-            (found′ .members q .0 m);
-        all-new = λ _ q (r, f, l, s, S, hs, e, t). found′ .members q .1 (at q r l s S hs e t (decLt r since));
-      }
-    where
-      at : (q r : ℕ) → r < rows → (s : ℕ) (S : Term) → Nth (shapes p) s S → slotAt table r ≡ firstSolution + s → Pass S (maskAt table r) A 0 q → Dec (r < since)
-          → List·Memᴰ q (take fresh answers) ⊎ Answer p table A 0 since q
-      at q r l s S hs e t (yes k) = inr (r, omega arith, k, s, S, hs, e, t)
-      at q r l s S hs e t (no k) = inl (fresh-listed seen answers answers₀ fresh found q .1 (r, omega arith, l, s, S, hs, e, t))
+    at : since < newest → (q r : ℕ) → r < rows → (s : ℕ) (S : Term) → Nth (shapes p) s S → slotAt table r ≡ firstSolution + s → Pass S (maskAt table r) A 0 q → Dec (r < since)
+        → List·Memᴰ q (take fresh answers) ⊎ Stands answers older maxRows q
+    at late q r l s S hs e t (yes k) = inr (parted .back q .1 (r, omega (arith, from-start late), k, s, S, hs, e, t))
+    at late q r l s S hs e t (no k) = inl (listed q .1 (r, omega arith, l, s, S, hs, e, t))
 
 module _ {words dir table heads : List ℕ} {since rows j : ℕ} (w : Situation words dir table heads since rows) (b : BodyOf (w .p) j) where
   pub place-slot : firstCont + j < slots
@@ -213,38 +156,3 @@ module _ {words dir table heads : List ℕ} {since rows j : ℕ} (w : Situation 
                   inl (Q, a .fresh-are Q .1 (r′, late, l′, s, S, hs, e′, pass), t))
                   new,
             )
-
--- what is known once the answers are listed
-pub record Listed (words dir table heads : List ℕ) (since rows j newest : ℕ) (seen answers : List ℕ) (fresh all : ℕ) : Type 0 where
-  pub listing : Listing seen answers all
-  pub there : AnswersThere answers fresh all
-  pub answered : (w : Situation words dir table heads since rows) (b : BodyOf (w .p) j) → Answered (w .p) table (b .A) since rows newest answers fresh all
-
-abbrev pub FoundIn : List ℕ → List ℕ → List ℕ → List ℕ → ℕ → ℕ → ℕ → ℕ → List ℕ → List ℕ → ℕ → ℕ → List ℕ → Type 0
-FoundIn words dir table heads j from to rows seen answers count r answers₀ =
-    (w : Situation words dir table heads to rows) (b : BodyOf (w .p) j)
-    → Found (Answer (w .p) table (b .A) from to) seen answers count r answers₀ × Sources (λ x. Outside from to x ⊎ ((from ≤ x) × (x < to))) rows r
-
-module _ (words dir table heads : List ℕ) (since rows j newest : ℕ) (asked : BodyAsked words dir table heads since rows j) where
-  pub listed-fresh : (seen answers answers₀ : List ℕ) (fresh : ℕ) → newest ≤ since → FoundIn words dir table heads j since rows rows seen answers 0 fresh answers₀
-      → Listed words dir table heads since rows j newest seen answers fresh fresh
-  listed-fresh seen answers answers₀ fresh old found =
-      let f = found (situation-since rows (omega arith) (asked .situation)) (asked .body) .0 .listing in
-      record {
-        listing = f;
-        there = record { few = omega arith; most = omega (arith, f .within, f .list-size) };
-        answered = λ w b. answered-fresh (w .p) table (b .A) since rows newest (w .chains .new) seen answers answers₀ fresh old (found (situation-since rows (omega arith) w) b .0);
-      }
-
-  pub listed-all : (seen answers answers₀ seen′ answers′ : List ℕ) (fresh all : ℕ) → FoundIn words dir table heads j since rows rows seen answers 0 fresh answers₀
-      → FoundIn words dir table heads j 0 since rows seen′ answers′ fresh all answers → Listed words dir table heads since rows j newest seen′ answers′ fresh all
-  listed-all seen answers answers₀ seen′ answers′ fresh all found found′ =
-      let g = found′ (asked .situation) (asked .body) .0 in
-      let f = g .listing in
-      record {
-        listing = f;
-        there = record { few = g .more; most = omega (arith, f .within, f .list-size) };
-        answered = λ w b.
-            answered-all (w .p) table (b .A) since rows newest (w .chains .new) seen answers answers₀ seen′ answers′ fresh all
-            (found (situation-since rows (omega arith) w) b .0) (found′ w b .0);
-      }

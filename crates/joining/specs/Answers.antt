@@ -1,8 +1,8 @@
 -- Answers: the marks that solution rows pass to a body atom, each once in a list, and the set of those listed.
-use Prim.Native.Nat.{ℕ, suc, _+_, _≤_, _<_}
+use Prim.Native.Nat.{ℕ, _+_, _≤_, _<_}
 use mathlib.Core.Path.{_≡_}
 use mathlib.Core.Logic.{_⊎_, _↔_}
-use mathlib.Core.List.{List, List·Memᴰ}
+use mathlib.Core.List.{List, [], List·Memᴰ}
 use lib.ListN.{length, take, getD}
 use Rattle.terms.specs.Term.{Term}
 use Rattle.marks.specs.Pass.{Pass}
@@ -10,12 +10,11 @@ use Rattle.marks.specs.Passing.{MarkedIn}
 use Rattle.terms.specs.Mask.{Marks}
 use Rattle.program.specs.Program.{Nth, Program}
 use Rattle.program.specs.Shapes.{shapes}
-use Rattle.rows.specs.Rows.{masks, slotAt, maskAt}
+use Rattle.rows.specs.Rows.{masks, maxRows, slotAt, maskAt}
 use Rattle.rows.specs.MaskSet.{setWords, InSet}
-use Rattle.directory.specs.Directory.{predicateOf}
 use Rattle.table.specs.Keys.{firstSolution}
 use Rattle.table.specs.Table.{Distinct}
-use Rattle.steps.specs.Situation.{Setting, Situation, BodyOf}
+use Rattle.steps.specs.Situation.{Situation, BodyOf}
 
 -- the first `count` answers are those seen
 pub record Listing (seen answers : List ℕ) (count : ℕ) : Type 0 where
@@ -48,14 +47,26 @@ pub record Found (P : ℕ → Type 0) (seen answers : List ℕ) (count r : ℕ) 
   pub keeps : take count answers ≡ take count answers₀
   pub members : (q : ℕ) → List·Memᴰ q (take r answers) ↔ (List·Memᴰ q (take count answers₀) ⊎ P q)
 
--- a row behind from..to: the answers listed before those of from..to are of such rows
-abbrev pub Outside : ℕ → ℕ → ℕ → Type 0
-Outside from to r = to ≤ r
+-- q stands in the list at a place from `from` on and before `to`
+abbrev pub Stands : List ℕ → ℕ → ℕ → ℕ → Type 0
+Stands answers from to q = (i : ℕ) × (from ≤ i) × (i < to) × (getD answers i 0 ≡ q)
+
+-- the answers of the rows from `since` on are listed at the front; those of the older rows from row `from` on stand at the back, from place `older` on
+pub record Parted (p : Program) (table : List ℕ) (A : Term) (from since rows : ℕ) (seen answers : List ℕ) (fresh older : ℕ) : Type 0 where
+  pub front : Found (Answer p table A since rows) seen answers 0 fresh []
+  pub back : (q : ℕ) → Stands answers older maxRows q ↔ Answer p table A from since q
+  pub room : fresh ≤ older
+  pub most : older ≤ maxRows
 
 -- what is asked before answers are listed
-pub record AnswersAsked (words dir table heads seen answers : List ℕ) (j from to count rows : ℕ) : Type 0 where
-  pub situation : Situation words dir table heads to rows
+pub record AnswersAsked (words dir table heads seen answers : List ℕ) (j from since rows : ℕ) : Type 0 where
+  pub situation : Situation words dir table heads since rows
   pub body : BodyOf (situation .p) j
-  pub ordered : from ≤ to
-  pub listing : Listing seen answers count
-  pub sources : Sources (Outside from to) rows count
+  pub ordered : from ≤ since
+  pub listing : Listing seen answers 0
+
+-- what is asked before the answers at the back are listed behind the fresh ones
+pub record SettleAsked (seen answers : List ℕ) (fresh older : ℕ) : Type 0 where
+  pub listing : Listing seen answers fresh
+  pub room : fresh ≤ older
+  pub most : older ≤ maxRows

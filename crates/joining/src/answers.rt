@@ -1,4 +1,4 @@
-// The marks that solutions pass to a body atom, each once.
+// The marks that solutions pass to a body atom, each once: those of new solution rows first, and then those of older ones alone.
 use directory::layout::BODY_CELLS;
 use directory::layout::BODY_START;
 use directory::layout::PREDICATE_SHAPE;
@@ -6,6 +6,7 @@ use directory::layout::SHAPE_NEXT;
 use directory::layout::SHAPE_VARS;
 use marks::variables::variables_of;
 use rows::maskset::insert;
+use rows::row::MAX_ROWS;
 use rows::row::before_at;
 use rows::row::mask_at;
 use steps::meet::first_variables;
@@ -14,19 +15,21 @@ use steps::meet::passed;
 use steps::place::SOLUTIONS;
 use terms::walk::wide;
 ghost use mathlib.Core.Path.{_≡_};
-ghost use mathlib.Core.List.{List};
-ghost use Prim.Native.Nat.{ℕ, _+_, _≤_, _<_};
 ghost use lib.ListN.{replicate};
-ghost use mathlib.Core.Logic.{_⊎_, _↔_};
-ghost use lib.Dec.{T};
-ghost use Rattle.program.specs.Program.{Program};
+ghost use Rattle.rows.specs.Rows.{maxRows};
 ghost use Rattle.rows.specs.MaskSet.{setWords};
-ghost use Rattle.steps.specs.Situation.{Setting, Situation, BodyOf};
-ghost use Rattle.joining.specs.Answers.{Listing, Sources, Answer, Found, Outside, AnswersAsked};
-ghost use Rattle.joining.specs.AnswerSteps.{Own, Gathered, More, ShapeAsked, AnswerOf, MetAsked};
-ghost use Rattle.table.specs.Keys.{firstSolution};
+ghost use Rattle.steps.specs.Situation.{Situation, BodyOf};
+ghost use Rattle.joining.specs.Answers.{Listing, Found, Stands, Parted, AnswersAsked, SettleAsked};
+ghost use Rattle.joining.specs.AnswerSteps.{Sided, ShapeAsked, GivenFrom, MetAsked, GivenWith};
 
-// Of the solution rows of one shape from row `from` on and below row `to`: the marks that they pass to the atom, behind the first `count`.
+// The fresh answers, of new solution rows, stand before place `fresh`, those of older rows from place `older` on.
+pub struct Sides {
+    pub fresh: usize,
+    pub older: usize,
+}
+
+// Of the solution rows of one shape from row `from` on: the marks that they pass to the atom.
+// Those of the rows from `since` on go to the front, each once, those of the older ones to the back, as they come.
 fn of_shape(
     table: &[u16],
     newest: usize,
@@ -34,30 +37,35 @@ fn of_shape(
     here: u16,
     there: u16,
     from: usize,
-    to: usize,
+    since: usize,
     seen: &mut [u16],
     answers: &mut [u16],
-    count: usize,
-) -> usize
-    requires { ⌜ ShapeAsked (now table) (now seen) (now answers) newest from to count ⌝ }
-    ensures { λ r. ⌜ (r ≤ 4096) × ((w : ShapeAsked (now (table .entry)) (now (seen .entry)) (now (answers .entry)) newest from to count)
-        → Found (Gathered (now (table .entry)) (now (sets .entry)) here there (w .slot) from to 0) (now (seen .exit)) (now (answers .exit)) count r (now (answers .entry))
-        × More (Own (now (table .entry)) (w .slot) from to) count r) ⌝ }
+    sides: Sides,
+) -> Sides
+    requires { ⌜ ShapeAsked (now table) (now seen) (now answers) newest from since (sides .fresh) (sides .older) ⌝ }
+    ensures { λ r. ⌜ ((w : ShapeAsked (now (table .entry)) (now (seen .entry)) (now (answers .entry)) newest from since (sides .fresh) (sides .older))
+        → Sided (GivenFrom (w .p) (w .A) (w .k) (w .s) (w .rows) (now (table .entry)) (now (sets .entry)) here there from 0) since (w .rows)
+        (now (seen .exit)) (now (answers .exit)) (r .fresh) (r .older)) ⌝ }
 {
-    let mut found = count;
+    let mut fresh = sides.fresh;
+    let mut older = sides.older;
     let mut link = newest;
     while from < link {
         let row = link - 1;
-        if row < to {
-            let mask = passed(sets, 0, mask_at(table, row), here, 16, there);
-            if insert(seen, mask) {
-                answers[found] = mask;
-                found += 1;
-            }
+        let mask = passed(sets, 0, mask_at(table, row), here, 16, there);
+        if row < since {
+            older -= 1;
+            answers[older] = mask;
+        } else if insert(seen, mask) {
+            answers[fresh] = mask;
+            fresh += 1;
         }
         link = before_at(table, row);
     }
-    found
+    Sides {
+        fresh: fresh,
+        older: older,
+    }
 }
 
 // Of the solution rows of shape s, where it unifies with the atom that stands at so many words from the start on.
@@ -71,15 +79,15 @@ fn of_met<'a>(
     cells: usize,
     there: u16,
     from: usize,
-    to: usize,
+    since: usize,
     seen: &mut [u16],
     answers: &mut [u16],
-    count: usize,
-) -> usize
-    requires { ⌜ MetAsked (now words) (now dir) (now table) (now seen) (now answers) s newest start cells there from to count ⌝ }
-    ensures { λ r. ⌜ (r ≤ 4096) × ((w : MetAsked (now (words .entry)) (now (dir .entry)) (now (table .entry)) (now (seen .entry)) (now (answers .entry)) s newest start cells there from to count)
-        → Found (AnswerOf (w .meeting .p) (now (table .entry)) (w .meeting .A) from to s) (now (seen .exit)) (now (answers .exit)) count r (now (answers .entry))
-        × More (Own (now (table .entry)) (firstSolution + s) from to) count r) ⌝ }
+    sides: Sides,
+) -> Sides
+    requires { ⌜ MetAsked (now words) (now dir) (now table) (now seen) (now answers) s newest start cells there from since (sides .fresh) (sides .older) ⌝ }
+    ensures { λ r. ⌜ ((w : MetAsked (now (words .entry)) (now (dir .entry)) (now (table .entry)) (now (seen .entry)) (now (answers .entry)) s newest start cells there from since (sides .fresh) (sides .older))
+        → Sided (GivenWith (w .meeting .p) (w .meeting .A) (w .k) s (w .rows) (now (table .entry)) from) since (w .rows)
+        (now (seen .exit)) (now (answers .exit)) (r .fresh) (r .older)) ⌝ }
 {
     let mut sets = [0u32; 32];
     if meet(words, dir, s, start, cells, &mut sets) {
@@ -91,16 +99,16 @@ fn of_met<'a>(
             here,
             there,
             from,
-            to,
+            since,
             seen,
             answers,
-            count,
+            sides,
         );
     }
-    count
+    sides
 }
 
-// Of all solution rows whose shape unifies with body atom j.
+// Of all solution rows from row `from` on whose shape unifies with body atom j: each shape meets the atom once.
 pub fn answers_to<'a>(
     words: &'a [u16],
     dir: &'a [u16],
@@ -108,29 +116,30 @@ pub fn answers_to<'a>(
     heads: &[u16],
     j: usize,
     from: usize,
-    to: usize,
+    since: usize,
     seen: &mut [u16],
     answers: &mut [u16],
-    count: usize,
     rows: usize,
-) -> usize
-    requires { ⌜ AnswersAsked (now words) (now dir) (now table) (now heads) (now seen) (now answers) j from to count rows ⌝ }
-    ensures { λ r. ⌜ (r ≤ 4096) × ((w : Situation (now (words .entry)) (now (dir .entry)) (now (table .entry)) (now (heads .entry)) to rows) (b : BodyOf (w .p) j)
-        → Found (Answer (w .p) (now (table .entry)) (b .A) from to) (now (seen .exit)) (now (answers .exit)) count r (now (answers .entry))
-        × Sources (λ x. Outside from to x ⊎ ((from ≤ x) × (x < to))) rows r) ⌝ }
+) -> Sides
+    requires { ⌜ AnswersAsked (now words) (now dir) (now table) (now heads) (now seen) (now answers) j from since rows ⌝ }
+    ensures { λ r. ⌜ ((w : Situation (now (words .entry)) (now (dir .entry)) (now (table .entry)) (now (heads .entry)) since rows) (b : BodyOf (w .p) j)
+        → Parted (w .p) (now (table .entry)) (b .A) from since rows (now (seen .exit)) (now (answers .exit)) (r .fresh) (r .older)) ⌝ }
 {
     let start = wide(dir[BODY_START + j]);
     let cells = wide(dir[BODY_CELLS + j]);
     let end = start + cells;
     let next = start + 1;
     let there = variables_of(&words[next..end]);
-    let mut found = count;
+    let mut sides = Sides {
+        fresh: 0,
+        older: MAX_ROWS,
+    };
     let mut link = wide(dir[PREDICATE_SHAPE + wide(words[start])]);
     while 0 < link {
         let s = link - 1;
         let newest = wide(heads[SOLUTIONS + s]);
         if from < newest {
-            found = of_met(
+            sides = of_met(
                 words,
                 dir,
                 table,
@@ -140,15 +149,33 @@ pub fn answers_to<'a>(
                 cells,
                 there,
                 from,
-                to,
+                since,
                 seen,
                 answers,
-                found,
+                sides,
             );
         }
         link = wide(dir[SHAPE_NEXT + s]);
     }
-    found
+    sides
+}
+
+// The answers from place `older` on are listed behind the fresh ones, each that is not seen yet: one for each place at most, so none that is still to be read is lost.
+pub fn settle(seen: &mut [u16], answers: &mut [u16], fresh: usize, older: usize) -> usize
+    requires { ⌜ SettleAsked (now seen) (now answers) fresh older ⌝ }
+    ensures { λ r. ⌜ Found (Stands (now (answers .entry)) older maxRows) (now (seen .exit)) (now (answers .exit)) fresh r (now (answers .entry)) ⌝ }
+{
+    let mut all = fresh;
+    let mut i = older;
+    while i < MAX_ROWS {
+        let mask = answers[i];
+        if insert(seen, mask) {
+            answers[all] = mask;
+            all += 1;
+        }
+        i += 1;
+    }
+    all
 }
 
 // Takes the first `count` answers out of the set of those seen.

@@ -1,6 +1,7 @@
 // Rule 2: "A cont row (n, i) and any solution row whose shape unifies with Ai give the cont row's marks together with those that the solution passes".
 use crate::answers::answers_to;
 use crate::answers::forget;
+use crate::answers::settle;
 use directory::layout::BODY_CELLS;
 use directory::layout::BODY_START;
 use marks::rows::kept;
@@ -146,35 +147,24 @@ fn list_answers<'a>(
         × ((w : Situation (now (words .entry)) (now (dir .entry)) (now (table .entry)) (now (heads .entry)) since before) (b : BodyOf (w .p) j)
         → Answered (w .p) (now (table .entry)) (b .A) since before newest (now (answers .exit)) (r .fresh) (r .all)) ⌝ }
 {
-    let fresh = answers_to(
+    let mut from = since;
+    if since < newest {
+        from = 0;
+    }
+    let sides = answers_to(
         words,
         dir,
         table,
         heads,
         j,
+        from,
         since,
-        before,
         seen,
         answers,
-        0,
         before,
     );
-    let mut all = fresh;
-    if since < newest {
-        all = answers_to(
-            words,
-            dir,
-            table,
-            heads,
-            j,
-            0,
-            since,
-            seen,
-            answers,
-            fresh,
-            before,
-        );
-    }
+    let fresh = sides.fresh;
+    let all = settle(seen, answers, fresh, sides.older);
     forget(seen, answers, all);
     Counts {
         fresh: fresh,

@@ -1,4 +1,4 @@
--- `answers_to` meets its contract: the answers of the predicate's shapes that are passed are listed. The measure is how many shapes may be left.
+-- `answers_to` meets its contract: the answers of the predicate's shapes that are passed stand in the list. The measure is how many shapes may be left.
 -- Assumes nothing.
 use native.Mathlib.Omega.{arith}
 use borrow.Author.Needs.{needs}
@@ -12,12 +12,12 @@ use Rattle.joining.proofs.answers.answers_to.Statement.{statement}
 use Rattle.joining.proofs.answers.answers_to.Tie as tie
 
 abbrev Inv-loop : tie.InvT-loop
-Inv-loop words dir table heads j from to seen₀ answers₀ count rows start cells end next there found₀ link₀ seen answers found link =
-    (w : Situation words dir table heads to rows) (b : BodyOf (w .p) j)
-    → Shaped (w .p) table (b .A) from to rows link seen answers count found answers₀
+Inv-loop words dir table heads j from since seen₀ answers₀ rows start cells end next there sides₀ link₀ seen answers sides link =
+    (w : Situation words dir table heads since rows) (b : BodyOf (w .p) j)
+    → Shaped (w .p) table (b .A) from since rows link seen answers (sides .fresh) (sides .older)
 
 abbrev μ-loop : tie.MeasureT-loop
-μ-loop words dir table heads j from to seen₀ answers₀ count rows start cells end next there found₀ link₀ seen answers found link =
+μ-loop words dir table heads j from since seen₀ answers₀ rows start cells end next there sides₀ link₀ seen answers sides link =
     shapesLeft link
 
 add-wide : tie.Need-add-wide Inv-loop μ-loop
@@ -118,7 +118,7 @@ wide-requires-4 c κs = search needs
 loop-holds : tie.Need-loop-holds Inv-loop μ-loop
 loop-holds c =
     let st = c .before .before .before .before .before .before .before .before .before .before .before .before .before .before .before .before in
-    λ w b. rw (c .wide4 .ensures .0, c .before .before .wide3 .ensures .0, c .before .before .before .before .before .before .before .before .wide .ensures .0) (shaped-begins w b (st .pre .listing) (st .pre .sources))
+    λ w b. rw (c .wide4 .ensures .0, c .before .before .wide3 .ensures .0, c .before .before .before .before .before .before .before .before .wide .ensures .0) (shaped-begins w b (st .pre .listing))
 
 sub-s : tie.Need-sub-s Inv-loop μ-loop
 sub-s c = omega (arith, c .loop-test .taken)
@@ -196,7 +196,7 @@ loop-again c =
     let more = c .before .before .before .before .before .loop-test .taken in
     λ w b. rw (c .wide6 .ensures .0) (⊎-elim
     (λ v. rw (v .8, v .9, v .10) (shaped-met w b (at .loop .inv w b) more (c .before .before .before .wide5 .ensures .0) start-is cells-is
-    (atom-variables w b (there .result) (rw (start-is, cells-is) at (there .ensures))) (v .3 .ensures .1)))
+    (atom-variables w b (there .result) (rw (start-is, cells-is) at (there .ensures))) (v .3 .ensures)))
     (λ v. rw (v .1, v .2, v .3) (shaped-goes-on w b (at .loop .inv w b) more
     (none-newer w b (at .loop .inv w b) more (rw (c .before .before .before .wide5 .ensures .0) at (v .0 .left)))))
     (c .before .before .if1 .came))
@@ -204,18 +204,17 @@ loop-again c =
 same-length : tie.Need-same-length Inv-loop μ-loop
 same-length c =
     let st = c .before .before .before .before .before .before .before .before .before .before .before .before .before .before .before .before .before .before in
-    (c .before .loop .inv (st .pre .situation) (st .pre .body)) .before .listing .set-size ∙ sym (st .pre .listing .set-size)
+    (c .before .loop .inv (st .pre .situation) (st .pre .body)) .sided .front .listing .set-size ∙ sym (st .pre .listing .set-size)
 
 same-length-2 : tie.Need-same-length-2 Inv-loop μ-loop
 same-length-2 c =
     let st = c .before .before .before .before .before .before .before .before .before .before .before .before .before .before .before .before .before .before in
-    (c .before .loop .inv (st .pre .situation) (st .pre .body)) .before .listing .list-size ∙ sym (st .pre .listing .list-size)
+    (c .before .loop .inv (st .pre .situation) (st .pre .body)) .sided .front .listing .list-size ∙ sym (st .pre .listing .list-size)
 
 returns : tie.Need-returns Inv-loop μ-loop
 returns c =
     let st = c .before .before .before .before .before .before .before .before .before .before .before .before .before .before .before .before .before .before in
-    let at = c .before in
-    ((at .loop .inv (st .pre .situation) (st .pre .body)) .before .listing .within, λ w b. shaped-ends w b (at .loop .inv w b) (c .loop-test .left))
+    λ w b. shaped-ends w b (st .pre .ordered) (c .before .loop .inv w b) (c .loop-test .left)
 
 pub answers-to-spec : {M : Type 1} → statement M
 answers-to-spec =

@@ -2,7 +2,7 @@
 -- Assumes nothing.
 use native.Mathlib.Omega.{arith}
 use borrow.Author.Needs.{needs}
-use Rattle.joining.proofs.AnswersMet.{variables-read, variables-few, met-answers, apart-answers}
+use Rattle.joining.proofs.AnswersMet.{variables-read, variables-few, asked, met-answers, apart-answers}
 use Rattle.joining.proofs.answers.of_met.Statement.{statement}
 use Rattle.joining.proofs.answers.of_met.Tie as tie
 
@@ -29,7 +29,7 @@ first-variables-requires : tie.Need-first-variables-requires
 first-variables-requires c κs = rw (c .wide .ensures .0) (variables-few (c .before .before .before .before .before .before .before .before .before .before .pre))
 
 of-shape-requires : tie.Need-of-shape-requires
-of-shape-requires c κs = search needs
+of-shape-requires c κs = asked (c .before .before .before .before .before .before .before .before .before .before .before .before .before .before .pre)
 
 same-length : tie.Need-same-length
 same-length c = search needs
@@ -38,16 +38,15 @@ same-length-2 : tie.Need-same-length-2
 same-length-2 c = search needs
 
 returns : tie.Need-returns
-returns c = (
-  c .before .before .before .before .of-shape .ensures .0,
-  λ w. met-answers w (c .before .before .before .before .before .before .before .before .before .before .before .before .meet .last .1 .1 .1 .1 .1 .0) (c .before .before .before .before .before .before .before .before .first-variables .result) (c .before .before .before .before .before .before .before .before .first-variables .ensures .0)
-      (rw (c .before .before .before .before .before .before .before .before .before .wide .ensures .0) at (c .before .before .before .before .before .before .before .before .first-variables .ensures .1)) (rw (c .before .before .before .before .before .before .before .before .before .before .before .if1 .taken) at (c .before .before .before .before .before .before .before .before .before .before .before .before .meet .ensures (w .meeting)))
-      (c .before .before .before .before .of-shape .last .1 .1 .1 .1 .1 .1 .1 .0) (c .before .before .before .before .of-shape .last .1 .1 .1 .1 .1 .1 .1 .1 .0) (c .before .before .before .before .of-shape .result)
-      (c .before .before .before .before .of-shape .ensures .1 (w .asked)),
-)
+returns c =
+    let ready = c .before .before .before .before .before .before .before .before in
+    let met = ready .before .before .before .before in
+    λ w. met-answers w (met .meet .last .1 .1 .1 .1 .1 .0) (ready .first-variables .result) (ready .first-variables .ensures .0)
+    (rw (ready .before .wide .ensures .0) at (ready .first-variables .ensures .1)) (rw (ready .before .before .before .if1 .taken) at (met .meet .ensures (w .meeting)))
+    (c .before .before .before .before .of-shape .ensures (asked w))
 
 returns-2 : tie.Need-returns-2
-returns-2 c = (c .before .before .before .before .before .before .before .before .pre .asked .listing .within, λ w. apart-answers w (rw (c .if1 .left) at (c .before .meet .ensures (w .meeting))))
+returns-2 c = λ w. apart-answers w (rw (c .if1 .left) at (c .before .meet .ensures (w .meeting)))
 
 pub of-met-spec : {M : Type 1} → statement M
 of-met-spec =
