@@ -1,6 +1,5 @@
--- The laws of rule 3: marks on a head, passed to every call row of every shape that unifies with it.
+-- The laws of rule 3: marks on a head, passed to every call row of a shape that unifies with it.
 pub mod SolveLaws
 pub mod SolveCalls
 pub mod SolveShape
-pub mod SolveHead
-pub mod SolveShapes
+pub mod SolveSets

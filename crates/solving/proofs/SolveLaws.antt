@@ -5,7 +5,7 @@ use native.Mathlib.Decide.{decLt}
 use mathlib.Core.Path.{_≡_, refl, sym, subst}
 use mathlib.Core.Logic.{_⊎_, inl, inr, ⊎-elim, ⊎-map}
 use mathlib.Core.List.{List}
-use lib.ListN.{length}
+use lib.ListN.{length, getD}
 use lib.Bits.{bitOr, and-le-r}
 use Rattle.terms.specs.Term.{Term, Occ, All}
 use Rattle.terms.specs.Mask.{Has}
@@ -27,9 +27,10 @@ use Rattle.table.specs.Keys.{keyOf, rowAt, Regular, regular-call}
 use Rattle.table.proofs.Keys.{call-at}
 use Rattle.table.proofs.NewRows.{new-reached}
 use Rattle.steps.specs.Steps.{RowsIn, Given}
+use Rattle.steps.specs.Situation.{Chains}
 use Rattle.steps.specs.Heads.{HeadMark}
 use Rattle.solving.specs.Solving.{ToShape, PassesTo, SolvedBy}
-use Rattle.steps.proofs.SlotRows.{at-slot}
+use Rattle.steps.proofs.SlotRows.{at-slot, in-slot}
 use Rattle.steps.proofs.ShapeLinks.{shape-below}
 
 -- "which keeps the call's own marks": what passes to an atom with marks of its own is what passes to it with none, together with them
@@ -74,6 +75,14 @@ late-row p table from old r s C e m (there, new) = at (decLt r from)
     at : Dec (r < from) → from ≤ r
     at (yes b) = absurd (new (there .0, rw (e, m) at (key-listed table from r b)))
     at (no b) = omega arith
+
+-- where the newest call row of shape s is one of the first `from` rows, there is no later one
+pub none-late : (p : Program) (table heads : List ℕ) (since old from s C : ℕ) → Chains p table heads since old → s < maxShapes → getD heads s 0 ≤ from
+    → New modes p (RowsIn p (keysOf table from)) (RowsIn p (keysOf table old)) (call s C) → ⊥
+none-late p table heads since old from s C chains few l new =
+    let (r, b, e, m) = in-slot p table heads since old chains old (call s C) (omega arith) (new .0) in
+    let late : from ≤ r = late-row p table from old r s C e m new in
+    chains .by-slot .from-heads s (rw (chains .all-heads) (omega arith)) .last r (omega arith) b e
 
 -- a mask of variables among those of another is at most that
 pub mask-within : {S : Term} {here : ℕ} (N : ℕ) → VariablesOf S here → ((v : ℕ) → Has N v → Occ v S) → N ≤ here

@@ -15,7 +15,7 @@ use Rattle.marks.specs.Modes.{modes}
 use Rattle.marks.specs.Passing.{MarkedIn, VariablesOf}
 use Rattle.marks.proofs.PassedOn.{second-to-first}
 use Rattle.program.specs.Program.{Program}
-use Rattle.rows.specs.Rows.{masks, keysOf}
+use Rattle.rows.specs.Rows.{keysOf}
 use Rattle.rows.specs.MaskSet.{setWords, InSet, Inserted}
 use Rattle.rows.specs.Store.{SameRows}
 use Rattle.rows.proofs.MaskSets.{none-in-zeros, was-there}
@@ -65,6 +65,10 @@ module _ {table₀ : List ℕ} {since old newest slot : ℕ} (w : ToShape table�
   pub passes-stay : (mask q : ℕ) → PassesTo w mask q → PassesTo to-stays mask q
   passes-stay mask q h = record { marks = head-stays (w .p) table₀ table old n (w .k) _ q behind same (h .marks); passed = h .passed }
 
+  pub found-stays : (found : List ℕ) (marks : ℕ) → FoundFor w found marks → FoundFor to-stays found marks
+  found-stays found marks f =
+      record { few = f .few; within = f .within; below = f .below; result = λ q h. head-stays (w .p) table₀ table old n (w .k) _ q behind same (f .result q h) }
+
   pub solved-stays : (from q : ℕ) (row : Row ℕ) → from ≤ old → SolvedBy w from q row → SolvedBy to-stays from q row
   solved-stays from q row l h =
       record {
@@ -79,11 +83,11 @@ module _ {table₀ : List ℕ} {since old newest slot : ℕ} (w : ToShape table�
       }
 
 -- marks in the set pass on the sets of the unifier
-pub set-passes : {table sets found : List ℕ} {since old newest slot here there : ℕ} (w : ToShape table since old newest slot) → ShapeSets w sets here there → FoundFor w found
-    → (q q′ q″ mask : ℕ) → q < masks → q′ ≡ q → InSet found q′ → q″ ≡ q → Marks (MarkedIn sets variables q″ there 0 0 here) mask → PassesTo w mask q
-set-passes w unified found q q′ q″ mask small e in-set e′ marked =
+pub set-passes : {table sets found : List ℕ} {since old newest slot here there marks : ℕ} (w : ToShape table since old newest slot) → ShapeSets (w .S) (w .c .head) sets here there
+    → FoundFor w found marks → (q q′ q″ mask : ℕ) → q′ ≡ q → InSet found q′ → q″ ≡ q → Marks (MarkedIn sets variables q″ there 0 0 here) mask → PassesTo w mask q
+set-passes w unified found q q′ q″ mask e in-set e′ marked =
     record {
-      marks = found .result q small (rw e at in-set);
+      marks = found .result q (rw e at in-set);
       passed =
           second-to-first 0 q mask (unified .unifying .most-general) (unified .unifying .sets-right) (unified .shape-variables) (unified .head-variables)
           (rw e′ at marked);

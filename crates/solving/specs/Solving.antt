@@ -1,7 +1,8 @@
 -- Rule 3, a shape and a call row at a time: what is asked of the steps, and what they must add.
 use Prim.Native.Nat.{ℕ, _+_, _≤_, _<_}
 use mathlib.Core.Path.{_≡_}
-use mathlib.Core.List.{List, List·Memᴰ}
+use mathlib.Core.Logic.{_⊎_}
+use mathlib.Core.List.{List, [], List·Memᴰ}
 use lib.ListN.{length, getD}
 use Rattle.terms.specs.Term.{Term, Occ}
 use Rattle.terms.specs.Mask.{Has}
@@ -10,14 +11,15 @@ use Rattle.marks.specs.Pass.{Pass}
 use Rattle.marks.specs.Passing.{VariablesOf}
 use Rattle.program.specs.Program.{Nth, Clause, Program}
 use Rattle.program.specs.Shapes.{shapes}
-use Rattle.rows.specs.Rows.{masks, keysOf, keyOf}
-use Rattle.rows.specs.MaskSet.{setWords, InSet}
+use Rattle.rows.specs.Rows.{keysOf, keyOf}
+use Rattle.rows.specs.MaskSet.{InSet}
 use Rattle.table.specs.Rules.{Row, call, solution}
 use Rattle.table.specs.NewRows.{New}
 use Rattle.table.specs.Keys.{firstSolution}
+use Rattle.table.specs.RoundKeys.{Keyed}
 use Rattle.steps.specs.Steps.{RowsIn}
 use Rattle.steps.specs.Situation.{Setting, Chains, Unifying}
-use Rattle.steps.specs.Heads.{HeadMark}
+use Rattle.steps.specs.Heads.{HeadMark, SolvedOf, FoundOn}
 
 -- the head H of clause k and shape s, whose newest call row is known
 pub record ToShape (table : List ℕ) (since rows newest slot : ℕ) : Type 0 where
@@ -49,16 +51,15 @@ pub record SolvedBy {table : List ℕ} {since rows newest slot : ℕ} (w : ToSha
   pub passed : Pass (w .c .head) q (w .S) C R
   pub is : row ≡ solution (w .s) R
 
--- the sets of the unifier of shape and head, and the variables of each
-pub record ShapeSets {table : List ℕ} {since rows newest slot : ℕ} (w : ToShape table since rows newest slot) (sets : List ℕ) (here there : ℕ) : Type 0 where
-  pub unifying : Unifying (w .S) (w .c .head) sets
-  pub shape-variables : VariablesOf (w .S) here
-  pub head-variables : VariablesOf (w .c .head) there
+-- the sets of the unifier of shape S and head H, and the variables of each
+pub record ShapeSets (S H : Term) (sets : List ℕ) (here there : ℕ) : Type 0 where
+  pub unifying : Unifying S H sets
+  pub shape-variables : VariablesOf S here
+  pub head-variables : VariablesOf H there
 
--- the set has marks that result on the head
-pub record FoundFor {table : List ℕ} {since rows newest slot : ℕ} (w : ToShape table since rows newest slot) (found : List ℕ) : Type 0 where
-  pub set-size : length found ≡ setWords
-  pub result : (q : ℕ) → q < masks → InSet found q → HeadMark (w .p) table 0 rows (w .k) (length (w .c .body)) q
+-- the set has marks that result on the head, all below `marks`
+abbrev pub FoundFor : {table : List ℕ} {since rows newest slot : ℕ} → ToShape table since rows newest slot → List ℕ → ℕ → Type 0
+FoundFor {table} {rows = rows} w found marks = FoundOn (w .p) table rows (w .k) (length (w .c .body)) found marks
 
 -- the solution rows of the shape for the marks below `marks` in the set
 abbrev pub SolvedBelow : {table : List ℕ} {since rows newest slot : ℕ} → ToShape table since rows newest slot → ℕ → List ℕ → ℕ → Row ℕ → Type 0
@@ -78,7 +79,17 @@ pub record CallsAsked (table solved : List ℕ) (since rows newest slot mask n :
 -- what is asked before the marks in the set go to a shape
 pub record ShapeAsked (table sets found : List ℕ) (since from rows newest slot here there marks : ℕ) : Type 0 where
   pub to : ToShape table since rows newest slot
-  pub shape-sets : ShapeSets to sets here there
-  pub found-for : FoundFor to found
-  pub few : marks ≤ masks
+  pub shape-sets : ShapeSets (to .S) (to .c .head) sets here there
+  pub found-for : FoundFor to found marks
   pub from-within : from ≤ rows
+
+-- and before those in two sets do: the marks in `known` go to new call rows, those in `found` to all
+pub record SetsAsked (table sets known found : List ℕ) (since rows newest slot here there known-marks marks : ℕ) : Type 0 where
+  pub to : ToShape table since rows newest slot
+  pub shape-sets : ShapeSets (to .S) (to .c .head) sets here there
+  pub known-for : FoundFor to known known-marks
+  pub found-for : FoundFor to found marks
+
+-- the keys of the solution rows of shape s that they give: ks₀ are the keys of the round before, ks those so far
+abbrev pub SolvedAt : Program → List ℕ → List ℕ → ℕ → List ℕ → List ℕ → ℕ → ℕ → Type 0
+SolvedAt p ks₀ ks k known found s key = Keyed p (SolvedOf p ks₀ ks k known s) key ⊎ Keyed p (SolvedOf p [] ks k found s) key

@@ -1,10 +1,4 @@
 // Rule 3: "For *every* call row whose shape unifies with H, H passes its marks to that shape, which keeps the call's own marks."
-use directory::layout::CLAUSE_CELLS;
-use directory::layout::CLAUSE_HEAD;
-use directory::layout::CLAUSE_VARS;
-use directory::layout::PREDICATE_SHAPE;
-use directory::layout::SHAPE_NEXT;
-use directory::layout::SHAPE_VARS;
 use marks::rows::together;
 use rows::maskset::contains;
 use rows::maskset::insert;
@@ -12,24 +6,19 @@ use rows::row::before_at;
 use rows::row::mask_at;
 use rows::store::add;
 use rows::zeros::clear;
-use steps::meet::first_variables;
-use steps::meet::meet;
 use steps::meet::passed;
 use steps::place::Round;
-use steps::place::SOLUTIONS;
 use terms::walk::narrow;
 use terms::walk::wide;
 ghost use mathlib.Core.Path.{_≡_};
 ghost use mathlib.Core.Logic.{_⊎_};
-ghost use Prim.Native.Nat.{ℕ, _+_, _≤_, _<_};
+ghost use Prim.Native.Nat.{ℕ, _+_, _/_, _≤_, _<_};
 ghost use lib.ListN.{length, replicate};
 ghost use Rattle.rows.specs.Rows.{masks, keysOf};
 ghost use Rattle.rows.specs.MaskSet.{setWords, InSet};
 ghost use Rattle.table.specs.RoundKeys.{Keyed};
-ghost use Rattle.steps.specs.Situation.{Situation};
 ghost use Rattle.steps.specs.Steps.{Writable, Stepped};
-ghost use Rattle.steps.specs.Heads.{Solved, SolveAsked};
-ghost use Rattle.solving.specs.Solving.{ToShape, SolvedBy, SolvedBelow, SetKeys, ShapeSets, FoundFor, CallsAsked, ShapeAsked};
+ghost use Rattle.solving.specs.Solving.{ToShape, SolvedBy, SolvedBelow, SetKeys, ShapeSets, FoundFor, CallsAsked, ShapeAsked, SetsAsked, SolvedAt};
 
 // All call rows of one shape, from row `from` on, keep their own marks beside those that the head passes. Each union of marks gives its row once, since
 // those in the set `solved` have theirs.
@@ -71,7 +60,7 @@ fn solve_calls(
 
 // The mark after q to look at: the rest of an empty word has none.
 fn next_mark(found: &[u16], q: usize) -> usize
-    requires { ⌜ (length (now found) ≡ setWords) × (q < masks) ⌝ }
+    requires { ⌜ (q / 16 < length (now found)) × (q < masks) ⌝ }
     ensures { λ r. ⌜ (q < r) × (r ≤ q + 16) × ((m : ℕ) → q < m → m < r → InSet (now (found .entry)) m → ⊥) ⌝ }
 {
     if found[q / 16] == 0 {
@@ -100,7 +89,7 @@ fn solve_marks(
     requires { ⌜ ShapeAsked (now table) (now sets) (now found) (at .since) from (at .rows) newest slot here there marks × Writable (now table) (now buckets) n (at .room) × (at .rows ≤ n)
         × (now seen ≡ replicate setWords 0) × (length (now solved) ≡ setWords) × ((N : ℕ) → N ≤ here → InSet (now solved) N → ⊥) ⌝ }
     ensures { λ r. ⌜ ((N : ℕ) → InSet (now (seen .exit)) N → N ≤ here)
-        × ((w : ToShape (now (table .entry)) (at .since) (at .rows) newest slot) → ShapeSets w (now (sets .entry)) here there → FoundFor w (now (found .entry))
+        × ((w : ToShape (now (table .entry)) (at .since) (at .rows) newest slot) → ShapeSets (w .S) (w .c .head) (now (sets .entry)) here there → FoundFor w (now (found .entry)) marks
         → Stepped (w .p) (keysOf (now (table .entry)) (at .rows)) (at .number) (at .room) n (now (table .entry)) (now (buckets .entry))
         (Keyed (w .p) (SolvedBelow w from (now (found .entry)) marks)) r (now (table .exit)) (now (buckets .exit))) ⌝ }
 {
@@ -124,7 +113,7 @@ fn solve_marks(
 
 // The marks on the head to one shape, with both sets empty at first, and `seen` empty again at the end: the words that can have a mask of the shape's
 // variables are cleared.
-fn solve_shape(
+fn solve_set(
     table: &mut [u16],
     buckets: &mut [u16],
     n: usize,
@@ -143,7 +132,7 @@ fn solve_shape(
     requires { ⌜ ShapeAsked (now table) (now sets) (now found) (at .since) from (at .rows) newest slot here there marks × Writable (now table) (now buckets) n (at .room) × (at .rows ≤ n)
         × (now seen ≡ replicate setWords 0) × (length (now solved) ≡ setWords) ⌝ }
     ensures { λ r. ⌜ (now (seen .exit) ≡ replicate setWords 0)
-        × ((w : ToShape (now (table .entry)) (at .since) (at .rows) newest slot) → ShapeSets w (now (sets .entry)) here there → FoundFor w (now (found .entry))
+        × ((w : ToShape (now (table .entry)) (at .since) (at .rows) newest slot) → ShapeSets (w .S) (w .c .head) (now (sets .entry)) here there → FoundFor w (now (found .entry)) marks
         → Stepped (w .p) (keysOf (now (table .entry)) (at .rows)) (at .number) (at .room) n (now (table .entry)) (now (buckets .entry))
         (Keyed (w .p) (SolvedBelow w from (now (found .entry)) marks)) r (now (table .exit)) (now (buckets .exit))) ⌝ }
 {
@@ -169,66 +158,69 @@ fn solve_shape(
     rows
 }
 
-// The marks on the head of clause k, to every shape that has a call row from row `from` on. `seen` and `solved` are lent for sets of masks.
-pub fn solve<'a>(
-    words: &'a [u16],
-    dir: &'a [u16],
+// Rule 3 for a shape that unifies with the head: the marks in the set `known` to its new call rows, those in the set `found` to all.
+pub fn solve_shape(
     table: &mut [u16],
     buckets: &mut [u16],
-    heads: &[u16],
-    seen: &mut [u16],
-    solved: &mut [u16],
     n: usize,
     at: Round,
-    k: usize,
+    newest: usize,
+    slot: u16,
+    sets: &[u32; 32],
+    here: u16,
+    there: u16,
+    known: &[u16],
+    known_marks: usize,
     found: &[u16],
-    from: usize,
+    marks: usize,
+    seen: &mut [u16],
+    solved: &mut [u16],
 ) -> usize
-    requires { ⌜ SolveAsked (now words) (now dir) (now table) (now heads) (now found) (at .since) from (at .rows) k × Writable (now table) (now buckets) n (at .room) × (at .rows ≤ n)
+    requires { ⌜ SetsAsked (now table) (now sets) (now known) (now found) (at .since) (at .rows) newest slot here there «known_marks» marks × Writable (now table) (now buckets) n (at .room) × (at .rows ≤ n)
         × (now seen ≡ replicate setWords 0) × (length (now solved) ≡ setWords) ⌝ }
     ensures { λ r. ⌜ (now (seen .exit) ≡ replicate setWords 0)
-        × ((w : Situation (now (words .entry)) (now (dir .entry)) (now (table .entry)) (now (heads .entry)) (at .since) (at .rows))
-        → Stepped (w .p) (keysOf (now (table .entry)) (at .rows)) (at .number) (at .room) n (now (table .entry)) (now (buckets .entry))
-        (Keyed (w .p) (Solved (w .p) (now (table .entry)) from (at .rows) k (now (found .entry)))) r (now (table .exit)) (now (buckets .exit))) ⌝ }
+        × ((a : SetsAsked (now (table .entry)) (now (sets .entry)) (now (known .entry)) (now (found .entry)) (at .since) (at .rows) newest slot here there «known_marks» marks)
+        → Stepped (a .to .p) (keysOf (now (table .entry)) (at .rows)) (at .number) (at .room) n (now (table .entry)) (now (buckets .entry))
+        (SolvedAt (a .to .p) (keysOf (now (table .entry)) (at .since)) (keysOf (now (table .entry)) (at .rows)) (a .to .k) (now (known .entry)) (now (found .entry)) (a .to .s)) r (now (table .exit)) (now (buckets .exit))) ⌝ }
 {
+    let since = at.since;
     let room = at.room;
-    let start = wide(dir[CLAUSE_HEAD + k]);
-    let cells = wide(dir[CLAUSE_CELLS + k]);
-    let vars = wide(dir[CLAUSE_VARS + k]);
-    let there = first_variables(vars);
-    let marks = 1usize << vars;
-    let mut sets = [0u32; 32];
     let mut rows = n;
-    let mut link = wide(dir[PREDICATE_SHAPE + wide(words[start])]);
-    while 0 < link {
-        let s = link - 1;
-        let newest = wide(heads[s]);
-        if from < newest {
-            if meet(words, dir, s, start, cells, &mut sets) {
-                let here = first_variables(wide(dir[SHAPE_VARS + s]));
-                let slot = narrow(SOLUTIONS + s);
-                rows = solve_shape(
-                    table,
-                    buckets,
-                    rows,
-                    at,
-                    newest,
-                    slot,
-                    &sets,
-                    here,
-                    there,
-                    found,
-                    marks,
-                    from,
-                    seen,
-                    solved,
-                );
-                if room < rows {
-                    return rows;
-                }
-            }
+    if since < newest {
+        rows = solve_set(
+            table,
+            buckets,
+            rows,
+            at,
+            newest,
+            slot,
+            sets,
+            here,
+            there,
+            known,
+            known_marks,
+            since,
+            seen,
+            solved,
+        );
+        if room < rows {
+            return rows;
         }
-        link = wide(dir[SHAPE_NEXT + s]);
     }
-    rows
+    solve_set(
+        table,
+        buckets,
+        rows,
+        at,
+        newest,
+        slot,
+        sets,
+        here,
+        there,
+        found,
+        marks,
+        0,
+        seen,
+        solved,
+    )
 }

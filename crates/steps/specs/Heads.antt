@@ -1,5 +1,5 @@
 -- Marks on a clause's head: those that result, as a set of masks of the head's variables, and the solution rows that they give.
-use Prim.Native.Nat.{ℕ, _+_, _≤_, _<_}
+use Prim.Native.Nat.{ℕ, _*_, _≤_, _<_}
 use mathlib.Core.Path.{_≡_}
 use mathlib.Core.Bool.{Bool}
 use mathlib.Core.Logic.{_⊎_, _↔_}
@@ -16,7 +16,6 @@ use Rattle.rows.specs.MaskSet.{setWords, InSet}
 use Rattle.table.specs.Rules.{Row, call, solution}
 use Rattle.table.specs.NewRows.{New, NewReached}
 use Rattle.steps.specs.Steps.{RowsIn}
-use Rattle.steps.specs.Situation.{Situation, ClauseOf}
 
 -- marks with which the rules come past the first i body atoms of clause k, by combinations with a row from `since` on
 abbrev pub ReachedSince : Program → List ℕ → ℕ → ℕ → ℕ → ℕ → ℕ → Type 0
@@ -40,16 +39,18 @@ pub record Marked (P : ℕ → Type 0) (found found′ : List ℕ) : Type 0 wher
 abbrev pub Told : (ℕ → Type 0) → Bool → Type 0
 Told P r = (q : ℕ) → P q → T r
 
--- the solution rows that the marks in the set give, "for *every* call row whose shape unifies with H", from row `from` on
-pub data Solved (p : Program) (table : List ℕ) (from rows k : ℕ) (found : List ℕ) : Row ℕ → Type 0 where
-  solved : {c : Clause} {q s C R : ℕ} {S : Term} → Nth (p .clauses) k c → q < masks → InSet found q → Nth (shapes p) s S
-      → New modes p (RowsIn p (keysOf table from)) (RowsIn p (keysOf table rows)) (call s C) → Pass (c .head) q S C R
-      → Solved p table from rows k found (solution s R)
+-- the solution rows of shape s that the marks in the set give with its call rows: ks are the keys of the rows so far, and those in ks₀ are left out
+pub data SolvedOf (p : Program) (ks₀ ks : List ℕ) (k : ℕ) (found : List ℕ) (s : ℕ) : Row ℕ → Type 0 where
+  solved : {c : Clause} {q C R : ℕ} {S : Term} → Nth (p .clauses) k c → InSet found q → Nth (shapes p) s S
+      → New modes p (RowsIn p ks₀) (RowsIn p ks) (call s C) → Pass (c .head) q S C R → SolvedOf p ks₀ ks k found s (solution s R)
 
--- the set has marks that result on the head of clause k, and none but of its variables
-pub record SolveAsked (words dir table heads found : List ℕ) (since from rows k : ℕ) : Type 0 where
-  pub situation : Situation words dir table heads since rows
-  pub from-within : from ≤ rows
-  pub clause : ClauseOf (situation .p) k
-  pub set-size : length found ≡ setWords
-  pub result : (q : ℕ) → q < masks → InSet found q → HeadMark (situation .p) table 0 rows k (length (clause .c .body)) q
+-- "for *every* call row whose shape unifies with H"
+abbrev pub Solved : Program → List ℕ → List ℕ → ℕ → List ℕ → Row ℕ → Type 0
+Solved p ks₀ ks k found row = (s : ℕ) × SolvedOf p ks₀ ks k found s row
+
+-- the set has marks that result on the head of clause k, past its i body atoms; all are below `marks`, and the set has words for these
+pub record FoundOn (p : Program) (table : List ℕ) (rows k i : ℕ) (found : List ℕ) (marks : ℕ) : Type 0 where
+  pub few : marks ≤ masks
+  pub within : marks ≤ 16 * length found
+  pub below : (q : ℕ) → InSet found q → q < marks
+  pub result : (q : ℕ) → InSet found q → HeadMark p table 0 rows k i q

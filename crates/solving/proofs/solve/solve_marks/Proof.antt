@@ -1,6 +1,6 @@
 -- `solve_marks` meets its contract. The invariant: the marks below q in the set were passed to the shape, and what was passed is in `seen`. The measure is
 -- how many are left. Assumes nothing.
-use Prim.Native.Nat.{ℕ, _+_, _-_, _<_}
+use Prim.Native.Nat.{ℕ, _+_, _-_}
 use native.Mathlib.Omega.{arith}
 use mathlib.Core.Path.{_≡_, sym, ap, _∙_}
 use mathlib.Core.Logic.{⊎-elim}
@@ -15,7 +15,7 @@ abbrev Inv-loop : tie.InvT-loop
 Inv-loop table₀ buckets₀ n at newest slot sets here there found marks from seen₀ solved₀ room rows₀ q₀ table buckets seen solved rows q =
     (length seen ≡ setWords)
     × (length solved ≡ setWords)
-    × ((w : ToShape table₀ (at .since) (at .rows) newest slot) → ShapeSets w sets here there → FoundFor w found
+    × ((w : ToShape table₀ (at .since) (at .rows) newest slot) → ShapeSets (w .S) (w .c .head) sets here there → FoundFor w found marks
     → Through w from found (at .number) (at .room) n buckets₀ q rows table buckets seen solved)
 
 abbrev μ-loop : tie.MeasureT-loop
@@ -27,13 +27,13 @@ loop-holds c =
     (ap length none-seen ∙ length-replicate {A = ℕ} setWords 0, size, λ w unified set. through-begins w _ (c .before .before .before .before .before .args .found .now) _ _ _ _ _ _ _ (unified .shape-variables) writable none-seen none-solved)
 
 narrow-requires : tie.Need-narrow-requires Inv-loop μ-loop
-narrow-requires c κs = omega (arith, c .loop-test .taken, c .before .before .before .before .before .before .before .pre .0 .few)
+narrow-requires c κs = omega (arith, c .loop-test .taken, c .before .before .before .before .before .before .before .pre .0 .found-for .few)
 
 contains-requires : tie.Need-contains-requires Inv-loop μ-loop
-contains-requires c κs = c .before .before .before .before .before .before .before .before .pre .0 .found-for .set-size
+contains-requires c κs = omega (arith, c .narrow .ensures, c .before .loop-test .taken, c .before .before .before .before .before .before .before .before .pre .0 .found-for .within)
 
 narrow-requires-2 : tie.Need-narrow-requires-2 Inv-loop μ-loop
-narrow-requires-2 c κs = omega (arith, c .before .before .before .loop-test .taken, c .before .before .before .before .before .before .before .before .before .before .pre .0 .few)
+narrow-requires-2 c κs = omega (arith, c .before .before .before .loop-test .taken, c .before .before .before .before .before .before .before .before .before .before .pre .0 .found-for .few)
 
 passed-requires : tie.Need-passed-requires Inv-loop μ-loop
 passed-requires c κs = (omega arith, omega arith)
@@ -45,9 +45,8 @@ solve-calls-requires : tie.Need-solve-calls-requires Inv-loop μ-loop
 solve-calls-requires c κs =
     let (asked, writable, l, none-seen, size, none-solved) = c .before .before .before .before .before .before .before .before .before .before .before .before .before .before .before .before .before .before .before .before .pre in
     let t = c .before .before .before .before .before .before .before .before .before .before .before .before .before .before .loop .inv .2 (asked .to) (asked .shape-sets) (asked .found-for) in
-    let small : c .before .before .before .before .before .before .before .before .before .before .before .before .before .before .loop .q < 65536 = omega (arith, c .before .before .before .before .before .before .before .before .before .before .before .before .before .loop-test .taken, asked .few) in
     let in-set = c .before .before .before .before .before .before .before .before .before .before .before .contains .ensures .0 (rw (c .before .before .before .before .before .before .before .before .before .before .if1 .taken) tt) in
-    let passes = set-passes (asked .to) (asked .shape-sets) (asked .found-for) _ _ _ _ small (c .before .before .before .before .before .before .before .before .before .before .before .before .narrow .ensures) in-set (c .before .before .before .before .before .before .before .before .before .narrow2 .ensures) (c .before .before .before .before .before .before .before .before .passed .ensures .1) in (
+    let passes = set-passes (asked .to) (asked .shape-sets) (asked .found-for) _ _ _ _ (c .before .before .before .before .before .before .before .before .before .before .before .before .narrow .ensures) in-set (c .before .before .before .before .before .before .before .before .before .narrow2 .ensures) (c .before .before .before .before .before .before .before .before .passed .ensures .1) in (
       calls-asked (asked .to) _ _ _ _ _ _ _ _ _ _ _ _ t _ _ _ (rw (c .before .before .before .before .before .before .before .before .before .before .before .before .narrow .ensures) at in-set) passes (c .before .before .before .before .before .before .insert .ensures) l,
       t .grew .writable,
       omega (arith, l, t .grew .more),
@@ -73,9 +72,8 @@ same-length-4 c = c .before .before .before .before .before .before .before .sol
 returns : tie.Need-returns Inv-loop μ-loop
 returns c =
     let (asked, writable, l, none-seen, size, none-solved) = c .before .before .before .before .before .before .before .before .before .before .before .before .before .before .before .before .before .before .before .before .before .before .before .before .before .before .before .before .pre in
-    let small : c .before .before .before .before .before .before .before .before .before .before .before .before .before .before .before .before .before .before .before .before .before .before .loop .q < 65536 = omega (arith, c .before .before .before .before .before .before .before .before .before .before .before .before .before .before .before .before .before .before .before .before .before .loop-test .taken, asked .few) in
     let in-set = c .before .before .before .before .before .before .before .before .before .before .before .before .before .before .before .before .before .before .before .contains .ensures .0 (rw (c .before .before .before .before .before .before .before .before .before .before .before .before .before .before .before .before .before .before .if1 .taken) tt) in
-    let passes : (w : _) → ShapeSets w _ _ _ → FoundFor w _ → _ = λ w unified set. set-passes w unified set _ _ _ _ small (c .before .before .before .before .before .before .before .before .before .before .before .before .before .before .before .before .before .before .before .before .narrow .ensures) in-set (c .before .before .before .before .before .before .before .before .before .before .before .before .before .before .before .before .before .narrow2 .ensures) (c .before .before .before .before .before .before .before .before .before .before .before .before .before .before .before .before .passed .ensures .1) in (
+    let passes : (w : ToShape (c .before .before .before .before .before .before .before .before .before .before .before .before .before .before .before .before .before .before .before .before .before .before .before .before .before .before .before .before .args .table .now) (c .before .before .before .before .before .before .before .before .before .before .before .before .before .before .before .before .before .before .before .before .before .before .before .before .before .before .before .before .args .at .since) (c .before .before .before .before .before .before .before .before .before .before .before .before .before .before .before .before .before .before .before .before .before .before .before .before .before .before .before .before .args .at .rows) (c .before .before .before .before .before .before .before .before .before .before .before .before .before .before .before .before .before .before .before .before .before .before .before .before .before .before .before .before .args .newest) (c .before .before .before .before .before .before .before .before .before .before .before .before .before .before .before .before .before .before .before .before .before .before .before .before .before .before .before .before .args .slot)) → ShapeSets (w .S) (w .c .head) _ _ _ → FoundFor w _ _ → _ = λ w unified set. set-passes w unified set _ _ _ _ (c .before .before .before .before .before .before .before .before .before .before .before .before .before .before .before .before .before .before .before .before .narrow .ensures) in-set (c .before .before .before .before .before .before .before .before .before .before .before .before .before .before .before .before .before .narrow2 .ensures) (c .before .before .before .before .before .before .before .before .before .before .before .before .before .before .before .before .passed .ensures .1) in (
       seen-more-within (asked .to) _ _ _ _ _ _ _ _ _ _ _ _ (c .before .before .before .before .before .before .before .before .before .before .before .before .before .before .before .before .before .before .before .before .before .before .loop .inv .2 (asked .to) (asked .shape-sets) (asked .found-for)) _ _ _ (rw (c .before .before .before .before .before .before .before .before .before .before .before .before .before .before .before .before .before .before .before .before .narrow .ensures) at in-set) (passes (asked .to) (asked .shape-sets) (asked .found-for)) (c .before .before .before .before .before .before .before .before .before .before .before .before .before .before .insert .ensures) _ (asked .shape-sets .shape-variables),
       λ w unified set.
           let t = c .before .before .before .before .before .before .before .before .before .before .before .before .before .before .before .before .before .before .before .before .before .before .loop .inv .2 w unified set in
@@ -83,7 +81,7 @@ returns c =
     )
 
 next-mark-requires : tie.Need-next-mark-requires Inv-loop μ-loop
-next-mark-requires c κs = (c .before .before .before .before .before .before .before .before .before .before .pre .0 .found-for .set-size, omega (arith, c .before .before .before .loop-test .taken, c .before .before .before .before .before .before .before .before .before .before .pre .0 .few))
+next-mark-requires c κs = (omega (arith, c .before .before .before .loop-test .taken, c .before .before .before .before .before .before .before .before .before .before .pre .0 .found-for .within), omega (arith, c .before .before .before .loop-test .taken, c .before .before .before .before .before .before .before .before .before .before .pre .0 .found-for .few))
 
 loop-less : tie.Need-loop-less Inv-loop μ-loop
 loop-less c = omega (arith, c .before .before .before .before .loop-test .taken, c .next-mark .ensures .0)
@@ -92,11 +90,10 @@ loop-less c = omega (arith, c .before .before .before .before .loop-test .taken,
 passed-on : (c : tie.Joined1 Inv-loop μ-loop)
     → (length (c .if1 .seen) ≡ setWords)
     × (length (c .if1 .solved) ≡ setWords)
-    × ((w : ToShape (c .before .before .before .before .before .before .before .before .before .before .args .table .now) (c .before .before .before .before .before .before .before .before .before .before .args .at .since) (c .before .before .before .before .before .before .before .before .before .before .args .at .rows) (c .before .before .before .before .before .before .before .before .before .before .args .newest) (c .before .before .before .before .before .before .before .before .before .before .args .slot)) → ShapeSets w (c .before .before .before .before .before .before .before .before .before .before .args .sets .now) (c .before .before .before .before .before .before .before .before .before .before .args .here) (c .before .before .before .before .before .before .before .before .before .before .args .there) → FoundFor w (c .before .before .before .before .before .before .before .before .before .before .args .found .now)
+    × ((w : ToShape (c .before .before .before .before .before .before .before .before .before .before .args .table .now) (c .before .before .before .before .before .before .before .before .before .before .args .at .since) (c .before .before .before .before .before .before .before .before .before .before .args .at .rows) (c .before .before .before .before .before .before .before .before .before .before .args .newest) (c .before .before .before .before .before .before .before .before .before .before .args .slot)) → ShapeSets (w .S) (w .c .head) (c .before .before .before .before .before .before .before .before .before .before .args .sets .now) (c .before .before .before .before .before .before .before .before .before .before .args .here) (c .before .before .before .before .before .before .before .before .before .before .args .there) → FoundFor w (c .before .before .before .before .before .before .before .before .before .before .args .found .now) (c .before .before .before .before .before .before .before .before .before .before .args .marks)
     → Through w (c .before .before .before .before .before .before .before .before .before .before .args .from) (c .before .before .before .before .before .before .before .before .before .before .args .found .now) (c .before .before .before .before .before .before .before .before .before .before .args .at .number) (c .before .before .before .before .before .before .before .before .before .before .args .at .room) (c .before .before .before .before .before .before .before .before .before .before .args .n) (c .before .before .before .before .before .before .before .before .before .before .args .buckets .now) (c .before .before .before .before .loop .q + 1) (c .if1 .rows) (c .if1 .table) (c .if1 .buckets) (c .if1 .seen) (c .if1 .solved))
 passed-on c =
     let (asked, writable, l, none-seen, size, none-solved) = c .before .before .before .before .before .before .before .before .before .before .pre in
-    let small : c .before .before .before .before .loop .q < 65536 = omega (arith, c .before .before .before .loop-test .taken, asked .few) in
     ⊎-elim
     (λ z.
     let in-set = c .before .contains .ensures .0 (rw (z .0 .taken) tt) in
@@ -105,7 +102,7 @@ passed-on c =
       z .11 .kept .1 .1 .1 .1 .1 .1 .1 .1 .0 ∙ c .before .before .before .before .loop .inv .1,
       λ w unified set.
           let t = c .before .before .before .before .loop .inv .2 w unified set in
-          let passes = set-passes w unified set _ _ _ _ small (c .before .before .narrow .ensures) in-set (z .1 .ensures) (z .2 .ensures .1) in
+          let passes = set-passes w unified set _ _ _ _ (c .before .before .narrow .ensures) in-set (z .1 .ensures) (z .2 .ensures .1) in
           through-on w _ _ _ _ _ _ _ _ _ _ _ _ t _ _ _ (rw (c .before .before .narrow .ensures) at in-set) passes (z .4 .ensures) l _ _ _ _ (z .11 .ensures (calls-asked w _ _ _ _ _ _ _ _ _ _ _ _ t _ _ _ (rw (c .before .before .narrow .ensures) at in-set) passes (z .4 .ensures) l)) (asked .from-within) (z .18 .left),
     ))
     (⊎-elim
@@ -115,7 +112,7 @@ passed-on c =
       z .4 .kept .0 ∙ c .before .before .before .before .loop .inv .0,
       c .before .before .before .before .loop .inv .1,
       λ w unified set.
-          let passes = set-passes w unified set _ _ _ _ small (c .before .before .narrow .ensures) in-set (z .1 .ensures) (z .2 .ensures .1) in
+          let passes = set-passes w unified set _ _ _ _ (c .before .before .narrow .ensures) in-set (z .1 .ensures) (z .2 .ensures .1) in
           through-again w _ _ _ _ _ _ _ _ _ _ _ _ (c .before .before .before .before .loop .inv .2 w unified set) _ _ _ (rw (c .before .before .narrow .ensures) at in-set) passes (z .4 .ensures) (λ f. rw (z .7 .left) at f),
     ))
     (λ z. rw (z .1, z .2, z .3, z .4, z .5) (
