@@ -21,13 +21,13 @@ use Rattle.rows.specs.MaskSet.{setWords}
 use Rattle.directory.specs.Layout.{clauseHead, clauseCells, clauseVars, shapeNext, predicateShape, dirWords}
 use Rattle.directory.specs.Directory.{Stands-at, Link, predicateOf}
 use Rattle.table.specs.Steps.{opens}
+use Rattle.table.proofs.Promise.{sound-same}
 use Rattle.steps.specs.Situation.{Situation, ClauseOf, HeadAsked}
 use Rattle.steps.specs.Heads.{ReachedSince, HeadMark, Marked, Told}
 use Rattle.calling.specs.Calls.{OpenedBy, OpenedBelow, MarkShape}
 use Rattle.steps.proofs.ShapeLinks.{shapesLeft, next-link, links-fall}
 use Rattle.steps.proofs.MarkedSets.{marked-same, marked-none, marked-then}
 use Rattle.calling.proofs.ShapeVisits.{clause-in-dir, head-stands, head-variables, first-link, link-few, below-none, below-next, below-all}
-use Rattle.calling.proofs.FirstVisits.{one-program}
 
 -- marks that a call row passes to a head are on the head's variables
 pub reached-kept : (p : Program) (table : List ℕ) (since rows : ℕ) {k : ℕ} {c : Clause} → Nth (p .clauses) k c → (N : ℕ)
@@ -56,7 +56,7 @@ reached-head p table since rows {k} {c} hc q = (to, from)
 pub asked-clause : {words dir table heads : List ℕ} {since rows k : ℕ} → HeadAsked words dir table heads since rows k
     → (w : Situation words dir table heads since rows) → ClauseOf (w .p) k
 asked-clause {words} {k = k} a w =
-    subst (λ (q : Program). ClauseOf q k) (one-program words (a .situation .setting .accepted) (w .setting .accepted)) (a .clause)
+    subst (λ (q : Program). ClauseOf q k) (sound-same _ (a .situation .setting .accepted) (w .setting .accepted)) (a .clause)
 
 module _ {words dir table heads : List ℕ} {since rows k : ℕ} (w : Situation words dir table heads since rows) (b : ClauseOf (w .p) k) where
   abbrev p : Program

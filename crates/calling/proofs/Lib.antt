@@ -4,5 +4,4 @@ pub mod CallWalks
 pub mod MetShapes
 pub mod MarkWalks
 pub mod ShapeVisits
-pub mod FirstVisits
 pub mod HeadVisits

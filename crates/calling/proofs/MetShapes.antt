@@ -15,12 +15,10 @@ use Rattle.directory.specs.Directory.{ShapeAt}
 use Rattle.table.proofs.ShapeVariables.{within-few}
 use Rattle.table.proofs.Steps.{opens-apart}
 use Rattle.steps.specs.Situation.{Meeting, Unifying}
-use Rattle.calling.specs.Calls.{OpenedBy, Emits, CallsOf, EmitAsked, MarkAsked, ShapeOf, FirstShape, MarkShape}
-use Rattle.steps.specs.Steps.{Writable, Stepped}
+use Rattle.calling.specs.Calls.{OpenedBy, CallsOf, MarkAsked, ShapeOf, MarkShape}
 use Rattle.steps.proofs.Meetings.{setting-within}
 use Rattle.steps.proofs.Bodies.{head-is-atom}
 use Rattle.calling.proofs.CallRows.{new-row}
-use Rattle.steps.proofs.Stepping.{stepped-none}
 
 module _ {words dir table heads : List ℕ} {p : Program} {since rows k s start cells there : ℕ}
     (a : ShapeOf words dir table heads p since rows k s start cells there) where
@@ -73,20 +71,6 @@ module _ {words dir table heads : List ℕ} {p : Program} {since rows k s start 
         head-variables = a .head-variables;
         newest-is = e;
       }
-
--- the same for rows of a clause's first body atom
-abbrev pub first-calls : {words dir order table heads : List ℕ} {count since rows s start cells there j : ℕ}
-    (a : FirstShape words dir order table heads count since rows s start cells there j) (newest here : ℕ) (sets : List ℕ) → newest ≡ getD heads s 0
-    → Unifying (a .shape .S) (a .shape .c .head) sets → here < 65536 → Marks (λ v. v < getD dir (shapeVars + s) 0) here
-    → EmitAsked dir order table sets count newest here there since rows j
-first-calls a newest here sets e u small m =
-    record { place = a .place; is-first = a .is-first; calls = opened-calls (a .shape) newest here sets e u small m }
-
--- nothing to do: no marks pass
-pub emits-none : (p : Program) (ks : List ℕ) (number room n k i : ℕ) (table buckets : List ℕ) (P : ℕ → Type 0) → Writable table buckets n room → ((N : ℕ) → P N → ⊥)
-    → Stepped p ks number room n table buckets (Emits p k i P) n table buckets
-emits-none p ks number room n k i table buckets P w none =
-    stepped-none p ks number room n table buckets (Emits p k i P) w (λ key (N, o, _). absurd (none N o))
 
 -- for a set of marks on the head
 abbrev pub mark-calls : {words dir table heads : List ℕ} {since s start cells there : ℕ} (a : MarkShape words dir table heads since s start cells there)

@@ -13,7 +13,7 @@ use Rattle.directory.specs.Directory.{Stands-at, predicateOf}
 use Rattle.table.specs.Rules.{call}
 use Rattle.table.specs.Steps.{Opens}
 use Rattle.table.specs.NewRows.{New}
-use Rattle.table.specs.Keys.{Few, bodyIndex}
+use Rattle.table.specs.Keys.{Few}
 use Rattle.table.specs.RoundKeys.{Keyed}
 use Rattle.steps.specs.Steps.{RowsIn, Emitted}
 use Rattle.steps.specs.Situation.{Setting, Chains, Unifying, Place}
@@ -76,23 +76,9 @@ pub record ShapeOf (words dir table heads : List ℕ) (p : Program) (since rows 
   pub stands : Stands-at words (c .head) start cells
   pub head-variables : VariablesOf (c .head) there
 
--- for a clause whose first body atom is j
-pub record FirstShape (words dir order table heads : List ℕ) (count since rows s start cells there j : ℕ) : Type 0 where
-  pub place : Place dir order count j
-  pub is-first : place .i ≡ 0
-  pub shape : ShapeOf words dir table heads (place .p) since rows (place .k) s start cells there
-
 -- for a clause without a body
 pub record MarkShape (words dir table heads : List ℕ) (since s start cells there : ℕ) : Type 0 where
   pub p : Program
   pub rows : ℕ
   pub k : ℕ
   pub shape : ShapeOf words dir table heads p since rows k s start cells there
-
--- j is the first body atom of clause k
-pub record FirstBody (p : Program) (k j : ℕ) : Type 0 where
-  pub c : Clause
-  pub A : Term
-  pub nth-clause : Nth (p .clauses) k c
-  pub nth-atom : Nth (c .body) 0 A
-  pub is : j ≡ bodyIndex p k 0

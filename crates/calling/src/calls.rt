@@ -1,6 +1,4 @@
 // Rule 1: "A call row whose shape unifies with H passes its marks to H (itself with none)."
-use directory::layout::BODY_CELLS;
-use directory::layout::BODY_START;
 use directory::layout::CLAUSE_CELLS;
 use directory::layout::CLAUSE_HEAD;
 use directory::layout::CLAUSE_VARS;
@@ -12,7 +10,6 @@ use rows::row::before_at;
 use rows::row::mask_at;
 use steps::meet::first_variables;
 use steps::meet::meet;
-use steps::meet::order_of;
 use steps::meet::passed;
 use steps::place::Round;
 use steps::place::emit;
@@ -20,18 +17,15 @@ use terms::walk::wide;
 ghost use mathlib.Core.Path.{_≡_};
 ghost use Prim.Native.Nat.{_≤_};
 ghost use lib.ListN.{length};
-ghost use Rattle.marks.specs.Modes.{modes};
 ghost use Rattle.rows.specs.Rows.{keysOf};
 ghost use Rattle.rows.specs.MaskSet.{setWords};
-ghost use Rattle.table.specs.NewRows.{NewGoesOn};
-ghost use Rattle.table.specs.RoundKeys.{Keyed};
-ghost use Rattle.steps.specs.Situation.{Situation, FirstAsked, HeadAsked};
-ghost use Rattle.steps.specs.Steps.{RowsIn, Writable, Stepped};
+ghost use Rattle.steps.specs.Situation.{Situation, HeadAsked};
+ghost use Rattle.steps.specs.Steps.{Writable, Stepped};
 ghost use Rattle.steps.specs.Heads.{HeadMark, Marked, Told};
-ghost use Rattle.calling.specs.Calls.{OpenedBy, Emits, EmitAsked, MarkAsked, FirstShape, MarkShape};
+ghost use Rattle.calling.specs.Calls.{OpenedBy, Emits, EmitAsked, MarkAsked, MarkShape};
 
 // The new call rows of one shape, to a clause with a body: rows for its first body atom.
-fn emit_shape(
+pub fn emit_shape(
     dir: &[u16],
     order: &[u8; 16],
     count: usize,
@@ -63,108 +57,6 @@ fn emit_shape(
             return rows;
         }
         link = before_at(table, row);
-    }
-    rows
-}
-
-// The new call rows of shape s, where it unifies with the head of a clause: rows for the clause's first body atom j.
-fn first_of_shape<'a>(
-    words: &'a [u16],
-    dir: &'a [u16],
-    order: &[u8; 16],
-    count: usize,
-    table: &mut [u16],
-    buckets: &mut [u16],
-    heads: &[u16],
-    n: usize,
-    at: Round,
-    s: usize,
-    start: usize,
-    cells: usize,
-    there: u16,
-    j: usize,
-) -> usize
-    requires { ⌜ FirstShape (now words) (now dir) (now order) (now table) (now heads) count (at .since) (at .rows) s start cells there j × Writable (now table) (now buckets) n (at .room) × (at .rows ≤ n) ⌝ }
-    ensures { λ r. ⌜ ((a : FirstShape (now (words .entry)) (now (dir .entry)) (now (order .entry)) (now (table .entry)) (now (heads .entry)) count (at .since) (at .rows) s start cells there j)
-        → Stepped (a .place .p) (keysOf (now (table .entry)) (at .rows)) (at .number) (at .room) n (now (table .entry)) (now (buckets .entry))
-        (Emits (a .place .p) (a .place .k) (a .place .i) (OpenedBy (a .place .p) (now (table .entry)) (at .since) (at .rows) (a .place .k) s))
-        r (now (table .exit)) (now (buckets .exit))) ⌝ }
-{
-    let since = at.since;
-    let newest = wide(heads[s]);
-    if newest <= since {
-        return n;
-    }
-    let mut sets = [0u32; 32];
-    if !meet(words, dir, s, start, cells, &mut sets) {
-        return n;
-    }
-    let here = first_variables(wide(dir[SHAPE_VARS + s]));
-    emit_shape(
-        dir,
-        order,
-        count,
-        table,
-        buckets,
-        n,
-        at,
-        newest,
-        &sets,
-        here,
-        there,
-        j,
-    )
-}
-
-// All new call rows, to clause k, whose first body atom is j.
-pub fn first_place<'a>(
-    words: &'a [u16],
-    dir: &'a [u16],
-    table: &mut [u16],
-    buckets: &mut [u16],
-    heads: &[u16],
-    n: usize,
-    at: Round,
-    k: usize,
-    j: usize,
-) -> usize
-    requires { ⌜ FirstAsked (now words) (now dir) (now table) (now heads) (at .since) (at .rows) k j × Writable (now table) (now buckets) n (at .room) × (at .rows ≤ n) ⌝ }
-    ensures { λ r. ⌜ ((w : Situation (now (words .entry)) (now (dir .entry)) (now (table .entry)) (now (heads .entry)) (at .since) (at .rows))
-        → Stepped (w .p) (keysOf (now (table .entry)) (at .rows)) (at .number) (at .room) n (now (table .entry)) (now (buckets .entry))
-        (Keyed (w .p) (NewGoesOn modes (w .p) (RowsIn (w .p) (keysOf (now (table .entry)) (at .since))) (RowsIn (w .p) (keysOf (now (table .entry)) (at .rows))) k 0)) r (now (table .exit)) (now (buckets .exit))) ⌝ }
-{
-    let room = at.room;
-    let start = wide(dir[CLAUSE_HEAD + k]);
-    let cells = wide(dir[CLAUSE_CELLS + k]);
-    let there = first_variables(wide(dir[CLAUSE_VARS + k]));
-    let from = wide(dir[BODY_START + j]);
-    let to = from + wide(dir[BODY_CELLS + j]);
-    let mut order = [0u8; 16];
-    let count = order_of(&words[from..to], &mut order);
-    let mut rows = n;
-    let mut link = wide(dir[PREDICATE_SHAPE + wide(words[start])]);
-    while 0 < link {
-        let s = link - 1;
-        rows = first_of_shape(
-            words,
-            dir,
-            &order,
-            count,
-            table,
-            buckets,
-            heads,
-            rows,
-            at,
-            s,
-            start,
-            cells,
-            there,
-            j,
-        );
-        if room < rows {
-            return rows;
-        }
-        link = wide(dir[SHAPE_NEXT + s]);
     }
     rows
 }
