@@ -20,7 +20,7 @@ use Rattle.table.specs.NewRows.{NewGoesOn, NewIn}
 use Rattle.table.specs.RoundKeys.{Keyed}
 use Rattle.table.proofs.Looking.{by-places}
 use Rattle.steps.specs.Steps.{RowsIn, Writable, Grew, Stepped}
-use Rattle.steps.specs.Situation.{Situation, BodyOf, FirstAsked, HeadAsked, LastAsked}
+use Rattle.steps.specs.Situation.{Situation, BodyOf, HeadAsked, LastAsked}
 use Rattle.steps.specs.Since.{PredicateAsked}
 use Rattle.steps.specs.Heads.{HeadMark, Marked, Told}
 use Rattle.steps.proofs.Meetings.{setting-within}
@@ -150,34 +150,6 @@ module _ (words dir table heads : List ℕ) (since rows k : ℕ) (w : HeadAsked 
           → ((s : Situation words dir table heads since rows) (b : BodyOf (s .p) (end - 1)) → Marked (HeadMark (s .p) table since rows (b .k) (suc (b .i))) found found′ × Told (HeadMark (s .p) table since rows (b .k) (suc (b .i))) r)
           → Marked (HeadMark p table since rows k (length (c .body))) found found′ × Told (HeadMark p table since rows k (length (c .body))) r
       last-marked found found′ r h = subst (λ (i : ℕ). Marked (HeadMark p table since rows k i) found found′ × Told (HeadMark p table since rows k i) r) last-suc (h (w .situation) last-body)
-
-      first-there : (A : Term) × Nth (c .body) 0 A
-      first-there = below-nth (c .body) 0 some
-
-      pub first-asked : FirstAsked words dir table heads since rows k start
-      first-asked =
-          record {
-            situation = w .situation;
-            body =
-                record {
-                  k = k;
-                  i = 0;
-                  c = c;
-                  A = first-there .0;
-                  nth-clause = w .clause .nth-clause;
-                  nth-atom = first-there .1;
-                  is = is-start ∙ first-index;
-                };
-            clause-is = refl;
-            place-is = refl;
-          }
-
--- a step for rows with the same keys
-pub stepped-over : (p : Program) (S : List ℕ → List ℕ → ℕ → Type 0) (ks₀ ks₀′ ks ks′ : List ℕ) (round room n n′ : ℕ) (table buckets table′ buckets′ : List ℕ) → ks₀ ≡ ks₀′ → ks ≡ ks′
-    → Stepped p ks round room n table buckets (S ks₀ ks) n′ table′ buckets′ → Stepped p ks′ round room n table buckets (S ks₀′ ks′) n′ table′ buckets′
-stepped-over p S ks₀ ks₀′ ks ks′ round room n n′ table buckets table′ buckets′ e f h =
-    subst (λ (x : List ℕ). Stepped p ks′ round room n table buckets (S x ks′) n′ table′ buckets′) e
-    (subst (λ (y : List ℕ). Stepped p y round room n table buckets (S ks₀ y) n′ table′ buckets′) f h)
 
 -- the clause stands in a table that has grown
 module _ (words dir heads table₀ buckets₀ : List ℕ) (since rows round room n : ℕ) (l : rows ≤ n) where

@@ -1,11 +1,12 @@
--- Marks on a clause's head: where the clause stands in the directory, which marks the set has, and what they end in.
+-- Marks on a clause's head: which marks a set has, and what they end in.
 use Prim.Native.Nat.{ℕ, _+_, _/_, _%_, _^_, _≤_, _<_}
 use native.Mathlib.Omega.{arith}
 use native.Mathlib.Decide.{decLt}
 use mathlib.Core.Path.{_≡_, sym, ap, subst}
 use mathlib.Core.Logic.{_⊎_, inl, inr, ⊎-elim, _↔_}
-use mathlib.Core.List.{List, List·Memᴰ, List·Memᴰ·not-nil}
+use mathlib.Core.List.{List, [], List·Memᴰ, List·Memᴰ·not-nil}
 use lib.ListN.{length, getD, replicate, List·getD-eq-default}
+use lib.Pow.{pow-mono}
 use Rattle.terms.specs.Term.{Term, Subst, app, sub, All, Occ}
 use Rattle.terms.specs.Cells.{Atom}
 use Rattle.terms.proofs.Masks.{has-none, marks-for, marks-below}
@@ -18,6 +19,7 @@ use Rattle.marks.proofs.Modes.{keptOf, keptOf-kept}
 use Rattle.program.specs.Program.{Clause, Program}
 use Rattle.program.proofs.ShapeLaws.{nth-same}
 use Rattle.program.proofs.Nths.{nth-below}
+use Rattle.directory.specs.Layout.{clauseVars}
 use Rattle.directory.specs.Directory.{predicateOf}
 use Rattle.rows.specs.Rows.{masks, slotAt, keysOf}
 use Rattle.rows.specs.MaskSet.{setWords, InSet}
@@ -25,21 +27,26 @@ use Rattle.rows.proofs.MaskSets.{none-in-zeros}
 use Rattle.rows.proofs.Keys.{listed-key, keys-by-row}
 use Rattle.table.specs.Rules.{Row, call, Reached, first, next}
 use Rattle.table.specs.Steps.{opens, makes, EndsIn, ends-in}
-use Rattle.table.specs.NewRows.{New, NewReached, new-on-head}
+use Rattle.table.specs.NewRows.{New, NewReached, NewOnHead, new-on-head}
 use Rattle.table.specs.RoundKeys.{Keyed}
 use Rattle.table.proofs.RuleLaws.{reached-within}
 use Rattle.table.proofs.NewRows.{new-reached}
 use Rattle.steps.specs.Steps.{RowsIn}
 use Rattle.steps.specs.Situation.{HeadAsked}
 use Rattle.steps.specs.Since.{SinceIn}
-use Rattle.steps.specs.Heads.{ReachedSince, HeadMark, Marked, Solved, solved, SolveAsked}
-use Rattle.ends.specs.Ends.{EndsBy, EndsSince}
+use Rattle.steps.specs.Heads.{ReachedSince, HeadMark, Marked, Solved, solved, FoundOn}
 use Rattle.steps.proofs.ShapeAtoms.{shape-is-atom}
 use Rattle.steps.proofs.Meetings.{setting-within}
 use Rattle.steps.proofs.Bodies.{head-is-atom}
 use Rattle.steps.proofs.SlotRows.{in-slot}
 use Rattle.solving.proofs.SolveLaws.{late-row}
-use Rattle.rows.proofs.ClearedMarks.{cleared-empty}
+use Rattle.ends.proofs.ClauseRows.{vars-few, vars-head}
+
+-- what clause k ends in by marks on its head that result from rows `marked` with one that is not in ks₀, and by call rows that are not in `from`
+abbrev pub EndsBy : Program → List ℕ → List ℕ → List ℕ → List ℕ → ℕ → ℕ → Type 0
+EndsBy p ks₀ marked from ks k =
+    Keyed p (λ row.
+    (N : ℕ) × NewOnHead modes p (RowsIn p ks₀) (RowsIn p marked) k N × (s : ℕ) × (C : ℕ) × New modes p (RowsIn p from) (RowsIn p ks) (call s C) × EndsIn modes p k N s C row)
 
 -- marks of other variables than the head's pass nothing on
 module _ (H S : Term) (N q C R : ℕ) (k : Kept (λ v. Occ v H) N q) where
@@ -84,6 +91,15 @@ since-first p table since marked rows k i N l h =
     (reached-within modes p (RowsIn p (keysOf table marked)) (RowsIn p (keysOf table rows)) (λ row (g, h). (g, keys-within table marked rows l _ h))
     (new-reached modes p (RowsIn p (keysOf table since)) (RowsIn p (keysOf table marked)) k i N h))
 
+-- so marks on a head
+pub mark-all : (p : Program) (table : List ℕ) (since known rows k i q : ℕ) → known ≤ rows → HeadMark p table since known k i q → HeadMark p table 0 rows k i q
+mark-all p table since known rows k i q l m =
+    record { c = m .c; nth-clause = m .nth-clause; N = m .N; reached = since-first p table since known rows k i (m .N) l (m .reached); kept = m .kept }
+
+-- a set without words has no marks
+pub empty-on : (p : Program) (table : List ℕ) (rows k i : ℕ) → FoundOn p table rows k i [] 0
+empty-on p table rows k i = record { few = omega arith; within = omega arith; below = λ q h. absurd (has-none (q % 16) h); result = λ q h. absurd (has-none (q % 16) h) }
+
 -- marks that an empty set has gained
 pub marked-empty : (P : ℕ → Type 0) (found₀ found : List ℕ) → found₀ ≡ replicate setWords 0 → Marked P found₀ found → Marked P (replicate setWords 0) found
 marked-empty P found₀ found e m = subst (λ (f : List ℕ). Marked P f found) e m
@@ -112,6 +128,12 @@ module _ (words dir table heads : List ℕ) (since rows k : ℕ) (w : HeadAsked 
         record { c = c; nth-clause = w .clause .nth-clause; N = N; reached = reached; kept = kept },
       )
 
+  -- marks on the head are of its variables
+  pub mark-below : (since′ upto q : ℕ) → HeadMark p table since′ upto k (length (c .body)) q → q < 2 ^ getD dir (clauseVars + k) 0
+  mark-below since′ upto q m =
+      marks-below (getD dir (clauseVars + k) 0) q
+      (λ v b. vars-head words dir table heads since rows k w v (subst (λ (d : Clause). Occ v (d .head)) (nth-same (m .nth-clause) (w .clause .nth-clause)) (m .kept v .0 b .0)))
+
   -- a set of marks that result from the first so many rows
   module _ (since′ upto : ℕ) (few : upto ≤ rows) (found : List ℕ) (marked : Marked (HeadMark p table since′ upto k (length (c .body))) (replicate setWords 0) found) where
     -- what the set has is below the number of masks, and a head mark
@@ -125,48 +147,36 @@ module _ (words dir table heads : List ℕ) (since rows k : ℕ) (w : HeadAsked 
     found-mark : (q : ℕ) → InSet found q → HeadMark p table since′ upto k (length (c .body)) q
     found-mark q h = ⊎-elim (λ z. absurd (none-in-zeros setWords q z)) (λ m. m) (marked .members q (found-below q h) .0 h)
 
-    pub solve-asked : (from : ℕ) → from ≤ rows → SolveAsked words dir table heads found since from rows k
-    solve-asked from l =
-        record {
-          situation = w .situation;
-          from-within = l;
-          clause = w .clause;
-          set-size = marked .size;
-          result = λ q l h.
-              let m = found-mark q h in
-              record { c = m .c; nth-clause = m .nth-clause; N = m .N; reached = since-first p table since′ upto rows k (length (c .body)) (m .N) few (m .reached); kept = m .kept };
-        }
+    pub found-result : (q : ℕ) → InSet found q → HeadMark p table 0 rows k (length (c .body)) q
+    found-result q h = mark-all p table since′ upto rows k (length (c .body)) q few (found-mark q h)
 
-    -- its masks stand in the first words
-    pub found-words : (vars : ℕ) → ((v : ℕ) → Occ v (c .head) → v < vars) → (q : ℕ) → InSet found q → q / 16 < (2 ^ vars + 15) / 16
-    found-words vars below q h =
-        let m = found-mark q h in
-        let l : q < 2 ^ vars = marks-below vars q (λ v b. below v (subst (λ (d : Clause). Occ v (d .head)) (nth-same (m .nth-clause) (w .clause .nth-clause)) (m .kept v .0 b .0))) in
-        omega arith
+    -- the set has all such marks
+    pub found-holds : (q : ℕ) → q < masks → HeadMark p table since′ upto k (length (c .body)) q → InSet found q
+    found-holds q l m = marked .members q l .1 (inr m)
 
-    -- no marks, and the set is still empty
-    pub none-found : ((v : ℕ) → getD found v 0 < masks) → ((q : ℕ) → HeadMark p table since′ upto k (length (c .body)) q → ⊥) → found ≡ replicate setWords 0
-    none-found small none = cleared-empty found 0 (marked .size) (omega arith) small (λ q h. absurd (none q (found-mark q h)))
+    -- all that the head's variables can have, or none
+    pub found-all : (marks : ℕ) → marks ≡ 2 ^ getD dir (clauseVars + k) 0 → FoundOn p table rows k (length (c .body)) found marks
+    found-all marks e =
+        let m : 2 ^ getD dir (clauseVars + k) 0 ≤ 2 ^ 16 = pow-mono (vars-few words dir table heads since rows k w) in
+        record { few = omega arith; within = omega (arith, marked .size); below = λ q h. rw e (mark-below since′ upto q (found-mark q h)); result = found-result }
 
-    -- what the clause ends in by marks in the set is solved
-    pub ends-solved : (from key : ℕ) → EndsBy p (keysOf table since′) (keysOf table upto) (keysOf table from) (keysOf table rows) k key → Keyed p (Solved p table from rows k found) key
-    ends-solved from key (_, (N, new-on-head {c = d} hc reached, s, C, called, ends-in {S = S} {R = R} hc′ hs passed), e) =
-        let same = nth-same hc (w .clause .nth-clause) in
-        let (q, l, kept, m) = head-mark since′ upto (length (c .body)) N (subst (λ (d : Clause). ReachedSince p table since′ upto k (length (d .body)) N) same reached) in (
-          _,
-          solved (w .clause .nth-clause) l (marked .members q l .1 (inr m)) hs called
+    pub found-none : (marks : ℕ) → marks ≡ 0 → ((q : ℕ) → HeadMark p table since′ upto k (length (c .body)) q → ⊥) → FoundOn p table rows k (length (c .body)) found marks
+    found-none marks e none = record { few = omega arith; within = omega arith; below = λ q h. absurd (none q (found-mark q h)); result = found-result }
+
+  -- what the clause ends in by marks that the set has is solved
+  pub ends-solved : (since′ upto : ℕ) (found : List ℕ) → ((q : ℕ) → q < masks → HeadMark p table since′ upto k (length (c .body)) q → InSet found q) → (from : List ℕ) (key : ℕ)
+      → EndsBy p (keysOf table since′) (keysOf table upto) from (keysOf table rows) k key → Keyed p (Solved p from (keysOf table rows) k found) key
+  ends-solved since′ upto found holds from key (_, (N, new-on-head {c = d} hc reached, s, C, called, ends-in {S = S} {R = R} hc′ hs passed), e) =
+      let same = nth-same hc (w .clause .nth-clause) in
+      let (q, l, kept, m) = head-mark since′ upto (length (c .body)) N (subst (λ (d : Clause). ReachedSince p table since′ upto k (length (d .body)) N) same reached) in (
+        _,
+        (
+          s,
+          solved (w .clause .nth-clause) (holds q l m) hs called
               (kept-passes (c .head) S N q C R kept (subst (λ (d : Clause). Pass (d .head) N S C R) (nth-same hc′ (w .clause .nth-clause)) passed)),
-          e,
-        )
-
-  -- without marks the clause ends in nothing
-  pub nothing-ends : (since′ from : ℕ) → ((q : ℕ) → HeadMark p table since′ rows k (length (c .body)) q → ⊥) → (key : ℕ)
-      → EndsSince p (keysOf table since′) (keysOf table from) (keysOf table rows) k key → ⊥
-  nothing-ends since′ from none key (row, (N, new-on-head {c = d} hc reached, s, C, called, ends), e) =
-      let (q, l, kept, m) =
-      head-mark since′ rows (length (c .body)) N
-      (subst (λ (d : Clause). ReachedSince p table since′ rows k (length (d .body)) N) (nth-same hc (w .clause .nth-clause)) reached) in
-      none q m
+        ),
+        e,
+      )
 
   -- a new call row whose shape unifies with the head is one of a shape of its predicate
   pub late-found : (N s C : ℕ) (row : Row ℕ) → New modes p (RowsIn p (keysOf table since)) T (call s C) → EndsIn modes p k N s C row

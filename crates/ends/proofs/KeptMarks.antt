@@ -1,14 +1,14 @@
 -- Marks on a clause's head that are kept between rounds: what results from the rows so far is what is kept and what a row more gives.
-use Prim.Native.Nat.{ℕ, zero, suc, _+_, _*_, _/_, _%_, _≤_, _<_}
+use Prim.Native.Nat.{ℕ, zero, suc, _+_, _-_, _*_, _/_, _%_, _^_, _≤_, _<_}
 use native.Mathlib.Omega.{arith}
 use native.Mathlib.Decide.{decLt, ℕ-discrete}
 use mathlib.Core.Path.{_≡_, refl, sym, ap, subst, _∙_}
 use mathlib.Core.Logic.{_⊎_, inl, inr, ⊎-elim, _↔_}
 use mathlib.Core.List.{List, [], List·Memᴰ, List·Memᴰ·not-nil}
-use lib.ListN.{length, getD, set, replicate, length-set, length-replicate}
+use lib.ListN.{length, getD, set, take, drop, replicate, length-set, length-replicate}
 use lib.Seq.{getD-set-same, getD-set-other}
-use Rattle.terms.specs.Term.{Occ}
-use Rattle.terms.proofs.Masks.{has-none, marks-below}
+use lib.Pow.{pow-mono}
+use Rattle.terms.proofs.Masks.{has-none}
 use Rattle.marks.specs.Modes.{modes}
 use Rattle.program.specs.Program.{Nth, Clause, Program}
 use Rattle.program.proofs.ShapeLaws.{nth-same, member-decided}
@@ -20,19 +20,18 @@ use Rattle.rows.proofs.MaskSets.{none-in-zeros}
 use Rattle.table.specs.Rules.{Row, call, cont, solution, Reached, first, next}
 use Rattle.table.specs.Keys.{keyOf}
 use Rattle.table.specs.Steps.{opens, makes}
-use Rattle.table.specs.NewRows.{NewReached, new-on-head}
+use Rattle.table.specs.NewRows.{NewReached}
 use Rattle.table.proofs.NewRows.{new-reached}
 use Rattle.table.proofs.Promise.{sound-same}
 use Rattle.steps.specs.Steps.{RowsIn, Stepped}
 use Rattle.steps.specs.Situation.{Setting, HeadAsked}
-use Rattle.steps.specs.Heads.{HeadMark, Marked}
+use Rattle.steps.specs.Heads.{HeadMark, Marked, FoundOn}
 use Rattle.steps.proofs.Stepping.{keys-stay, stepped-within}
 use Rattle.steps.proofs.Meetings.{setting-within}
-use Rattle.ends.specs.Ends.{EndsBy}
-use Rattle.ends.specs.Keeping.{keptVars, keptMasks, keptSet, keptRows, keptWords, KeptIn, knownOf, Keeping, Keeps, Recalled, Gained}
-use Rattle.ends.proofs.ClauseRows.{vars-head}
-use Rattle.ends.proofs.HeadMarks.{all-new, since-first}
-use Rattle.ends.proofs.KeptWords.{zero-word}
+use Rattle.ends.specs.Keeping.{keptVars, keptMasks, keptSet, keptRows, keptWords, KeptIn, knownOf, Keeping, Keeps, Gained}
+use Rattle.ends.proofs.ClauseRows.{clause-few}
+use Rattle.ends.proofs.HeadMarks.{all-new, mark-all, mark-below}
+use Rattle.ends.proofs.KeptWords.{zero-word, part-length, part-members}
 
 -- marks result from rows that are known alone, or from one that is not
 pub reached-known-or-new : (p : Program) (known ks : List ℕ) {k i N : ℕ} → Reached modes p (RowsIn p ks) k i N
@@ -63,18 +62,8 @@ nothing-reached : (p : Program) (T₀ : Row ℕ → Type 0) (k i N : ℕ) → Ne
 nothing-reached p T₀ k zero N (s, M, new, o) = List·Memᴰ·not-nil (new .0 .1)
 nothing-reached p T₀ k (suc i) N (M, s, L, row, row′, new, o) = List·Memᴰ·not-nil (row .1)
 
-pub none-known : (p : Program) (table from ks : List ℕ) (known k key : ℕ) → known ≡ 0 → EndsBy p [] (keysOf table known) from ks k key → ⊥
-none-known p table from ks known k key e (row, (N, new-on-head {c = c} hc reached, s, C, called, ends), is) =
-    nothing-reached p (RowsIn p []) k (length (c .body)) N
-    (subst (λ (x : ℕ). NewReached modes p (RowsIn p []) (RowsIn p (keysOf table x)) k (length (c .body)) N) e reached)
-
 module _ (p : Program) (table : List ℕ) where
-  -- marks that result from rows that are known, or from more, result from the rows so far
-  pub mark-all : (since known rows k i q : ℕ) → known ≤ rows → HeadMark p table since known k i q → HeadMark p table 0 rows k i q
-  mark-all since known rows k i q l m =
-      record { c = m .c; nth-clause = m .nth-clause; N = m .N; reached = since-first p table since known rows k i (m .N) l (m .reached); kept = m .kept }
-
-  -- and the marks that result from the rows so far are those and no others
+  -- marks that result from the rows so far result from those that are known, or from one more
   pub mark-split : (known rows k i q : ℕ) → HeadMark p table 0 rows k i q → HeadMark p table 0 known k i q ⊎ HeadMark p table known rows k i q
   mark-split known rows k i q m =
       ⊎-elim
@@ -134,10 +123,7 @@ keeping-none p table kept n e =
     zero : (i : ℕ) → getD kept i 0 ≡ 0
     zero i = ap (λ (l : List ℕ). getD l i 0) e ∙ zero-word keptWords i
 
--- a set that gains nothing, and one that gains the marks of a set
-pub gained-none : {P : ℕ → Type 0} (k : ℕ) (kept : List ℕ) → ((q : ℕ) → P q → ⊥) → Gained P k kept kept
-gained-none k kept none = record { size = refl; members = λ q l. (inl, ⊎-elim (λ h. h) (λ m. absurd (none q m))); others = λ i o. refl }
-
+-- a kept set that gains the marks of a set
 pub gained-marked : {P : ℕ → Type 0} (k : ℕ) (kept kept′ found : List ℕ) → Marked P (replicate setWords 0) found → Gained (InSet found) k kept kept′ → Gained P k kept kept′
 gained-marked k kept kept′ found m g =
     record {
@@ -161,7 +147,7 @@ step-keeps p ks round room n n′ rows table buckets table′ buckets′ kept Mu
     keeping-stays p table table′ kept rows (λ m b. keys-stay table table′ n m (omega arith) (g .same-rows))
 
 module _ {words dir : List ℕ} {p : Program} (setting : Setting words dir p) (table : List ℕ) (rows k : ℕ) {c : Clause} (hc : Nth (p .clauses) k c) (kept kept′ : List ℕ) (s : Keeping p table kept rows)
-    (g : Gained (HeadMark p table (knownOf kept k) rows k (length (c .body))) k kept kept′) where
+    (since : ℕ) (early : since ≤ knownOf kept k) (g : Gained (HeadMark p table since rows k (length (c .body))) k kept kept′) where
   below : {k′ : ℕ} {c′ : Clause} → Nth (p .clauses) k′ c′ → k′ < 64
   below h = omega (arith, nth-below h, setting-within setting .clauses-most)
 
@@ -181,9 +167,9 @@ module _ {words dir : List ℕ} {p : Program} (setting : Setting words dir p) (t
   its-marks q l = rw (set-word k q (below hc) l) (
     λ h. ⊎-elim
         (λ h′. mark-all p table 0 (knownOf kept k) rows k (length (c .body)) q (s .known-within k c hc) (s .members k c hc q l .0 h′))
-        (λ m. mark-all p table (knownOf kept k) rows rows k (length (c .body)) q (omega arith) m)
+        (λ m. mark-all p table since rows rows k (length (c .body)) q (omega arith) m)
         (g .members q l .0 h),
-    λ m. g .members q l .1 (⊎-elim (λ m′. inl (s .members k c hc q l .1 m′)) inr (mark-split p table (knownOf kept k) rows k (length (c .body)) q m)),
+    λ m. g .members q l .1 (⊎-elim (λ m′. inl (s .members k c hc q l .1 (mark-all p table 0 since (knownOf kept k) k (length (c .body)) q early m′))) inr (mark-split p table since rows k (length (c .body)) q m)),
   )
 
   other-word : (k′ q : ℕ) → (k′ ≡ k → ⊥) → k′ < 64 → q < keptMasks → getD now-known (keptSet * k′ + q / 16) 0 ≡ getD kept (keptSet * k′ + q / 16) 0
@@ -224,21 +210,31 @@ module _ {words dir : List ℕ} {p : Program} (setting : Setting words dir p) (t
           let same : c′ ≡ c = nth-same (subst (λ (x : ℕ). Nth (p .clauses) x c′) e h) hc in
           rw (e, same, its-rows) (its-marks q l)
 
--- what is recalled for a clause of few variables is all that results from the rows that are known
-module _ (words dir table heads : List ℕ) (since rows k : ℕ) (w : HeadAsked words dir table heads since rows k) (kept found : List ℕ)
-    (s : Keeping (w .situation .p) table kept rows) (few : getD dir (clauseVars + k) 0 ≤ keptVars) (r : Recalled kept k found) where
-  pub recalled-marked : Marked (HeadMark (w .situation .p) table 0 (knownOf kept k) k (length (w .clause .c .body))) (replicate setWords 0) found
-  recalled-marked =
+-- the kept set of a clause of few variables has marks that result, and all that result from some of the rows that are known
+module _ (words dir table heads : List ℕ) (since rows k : ℕ) (w : HeadAsked words dir table heads since rows k) (kept : List ℕ)
+    (s : Keeping (w .situation .p) table kept rows) (few : getD dir (clauseVars + k) 0 ≤ keptVars) (first end : ℕ) (is-first : first ≡ keptSet * k) (is-end : end ≡ first + keptSet) where
+  abbrev part : List ℕ
+  part = take (end - first) (drop first kept)
+
+  in-part : (q : ℕ) → InSet part q ↔ ((q < keptMasks) × KeptIn kept k q)
+  in-part = part-members kept (s .size) k (clause-few words dir table heads since rows k w .0) first end is-first is-end
+
+  kept-mark : (q : ℕ) → InSet part q → HeadMark (w .situation .p) table 0 (knownOf kept k) k (length (w .clause .c .body)) q
+  kept-mark q h = let (b, i) = in-part q .0 h in s .members k (w .clause .c) (w .clause .nth-clause) q b .0 i
+
+  few-masks : 2 ^ getD dir (clauseVars + k) 0 ≤ keptMasks
+  few-masks = pow-mono {j = 9} few
+
+  pub kept-on : (marks : ℕ) → marks ≡ 2 ^ getD dir (clauseVars + k) 0 → FoundOn (w .situation .p) table rows k (length (w .clause .c .body)) part marks
+  kept-on marks e =
       record {
-        size = r .size;
-        members = λ q l. (
-          λ h. let (b, i) = r .members q .0 h in inr (s .members k (w .clause .c) (w .clause .nth-clause) q b .0 i),
-          ⊎-elim (λ z. absurd (none-in-zeros setWords q z)) (λ m. r .members q .1 (small q m, s .members k (w .clause .c) (w .clause .nth-clause) q (small q m) .1 m)),
-        );
+        few = omega (arith, few-masks);
+        within = omega (arith, few-masks, part-length kept (s .size) k (clause-few words dir table heads since rows k w .0) first end is-first is-end);
+        below = λ q h. rw e (mark-below words dir table heads since rows k w 0 (knownOf kept k) q (kept-mark q h));
+        result = λ q h. mark-all (w .situation .p) table 0 (knownOf kept k) rows k _ q (s .known-within k (w .clause .c) (w .clause .nth-clause)) (kept-mark q h);
       }
-    where
-      small : (q : ℕ) → HeadMark (w .situation .p) table 0 (knownOf kept k) k (length (w .clause .c .body)) q → q < keptMasks
-      small q m =
-          marks-below 9 q (λ v b.
-          let d = vars-head words dir table heads since rows k w v (subst (λ (d : Clause). Occ v (d .head)) (nth-same (m .nth-clause) (w .clause .nth-clause)) (m .kept v .0 b .0)) in
-          omega arith)
+
+  pub kept-holds : (upto : ℕ) → upto ≤ knownOf kept k → (q : ℕ) → HeadMark (w .situation .p) table 0 upto k (length (w .clause .c .body)) q → InSet part q
+  kept-holds upto l q m =
+      let b : q < keptMasks = omega (arith, few-masks, mark-below words dir table heads since rows k w 0 upto q m) in
+      in-part q .1 (b, s .members k (w .clause .c) (w .clause .nth-clause) q b .1 (mark-all (w .situation .p) table 0 upto (knownOf kept k) k _ q l m))

@@ -1,18 +1,16 @@
--- Kept sets word by word: a set copied out, and a set put beside what is kept.
-use Prim.Native.Nat.{ℕ, _+_, _*_, _/_, _%_, _≤_, _<_}
+-- Kept sets word by word: a set as a part of the words, and a set put beside what is kept.
+use Prim.Native.Nat.{ℕ, _+_, _-_, _*_, _/_, _%_, _≤_, _<_}
 use native.Mathlib.Omega.{arith}
 use native.Mathlib.Decide.{decLt, ℕ-discrete}
 use mathlib.Core.Path.{_≡_, refl, ap, _∙_}
 use mathlib.Core.Logic.{_⊎_, inl, inr, ⊎-elim, _↔_}
-use mathlib.Core.List.{List, _++_}
-use lib.ListN.{length, getD, set, drop, replicate, length-set, length-replicate, getD-replicate, List·getD-eq-default}
-use lib.Seq.{getD-set-same, getD-set-other}
+use mathlib.Core.List.{List}
+use lib.ListN.{length, getD, set, take, drop, replicate, length-set, length-drop, length-replicate, getD-replicate, List·getD-eq-default}
+use lib.Seq.{getD-set-same, getD-set-other, length-take-le, getD-take, getD-drop}
 use lib.Bits.{bitOr}
 use Rattle.terms.proofs.Masks.{has-none, has-or}
-use Rattle.rows.specs.Rows.{masks}
-use Rattle.rows.specs.MaskSet.{setWords, InSet}
-use Rattle.rows.proofs.ClearedMarks.{cleared-empty}
-use Rattle.ends.specs.Keeping.{keptSet, keptMasks, KeptIn, Recalled, Gained}
+use Rattle.rows.specs.MaskSet.{InSet}
+use Rattle.ends.specs.Keeping.{keptSet, keptMasks, keptWords, KeptIn, Gained}
 
 -- words that are 0
 pub zero-word : (n i : ℕ) → _≡_ {A = ℕ} (getD (replicate n 0) i 0) 0
@@ -22,45 +20,23 @@ zero-word n i = at (decLt i n)
     at (yes l) = getD-replicate {A = ℕ} n i 0 0 l
     at (no o) = List·getD-eq-default {A = ℕ} (replicate n 0) 0 {n = i} (let e = length-replicate {A = ℕ} n 0 in omega arith)
 
--- the first i words are those that are kept, the others 0
-pub record Copied (kept : List ℕ) (k i : ℕ) (found : List ℕ) : Type 0 where
-  pub size : length found ≡ setWords
-  pub copied : (j : ℕ) → j < i → getD found j 0 ≡ getD kept (keptSet * k + j) 0
-  pub others : (j : ℕ) → i ≤ j → getD found j 0 ≡ 0
+-- the set of clause k, as a part of the words
+module _ (kept : List ℕ) (size : length kept ≡ keptWords) (k : ℕ) (few : k < 64) (first end : ℕ) (is-first : first ≡ keptSet * k) (is-end : end ≡ first + keptSet) where
+  pub part-length : length (take (end - first) (drop first kept)) ≡ keptSet
+  part-length = let l : end - first ≤ length (drop first kept) = rw length-drop (omega arith) in length-take-le (end - first) (drop first kept) l ∙ omega arith
 
-pub copied-none : (kept : List ℕ) (k : ℕ) (found : List ℕ) → found ≡ replicate setWords 0 → Copied kept k 0 found
-copied-none kept k found e =
-    record {
-      size = ap length e ∙ length-replicate {A = ℕ} setWords 0;
-      copied = λ j l. absurd (omega arith);
-      others = λ j l. ap (λ (f : List ℕ). getD f j 0) e ∙ zero-word setWords j;
-    }
+  part-word : (i : ℕ) → i < keptSet → getD (take (end - first) (drop first kept)) i 0 ≡ getD kept (keptSet * k + i) 0
+  part-word i l = getD-take (end - first) (drop first kept) i 0 (omega arith) ∙ getD-drop first kept i 0 ∙ ap (λ (x : ℕ). getD kept (x + i) 0) is-first
 
-pub copied-one : (kept : List ℕ) (k i : ℕ) (found : List ℕ) → i < setWords → Copied kept k i found → Copied kept k (i + 1) (set found i (getD kept (keptSet * k + i) 0))
-copied-one kept k i found b c =
-    record {
-      size = length-set found i (getD kept (keptSet * k + i) 0) ∙ c .size;
-      copied = λ j l. at j l (ℕ-discrete j i);
-      others = λ j l. getD-set-other found i j (getD kept (keptSet * k + i) 0) 0 (λ e. omega arith) ∙ c .others j (omega arith);
-    }
-  where
-    at : (j : ℕ) → j < i + 1 → Dec (j ≡ i) → getD (set found i (getD kept (keptSet * k + i) 0)) j 0 ≡ getD kept (keptSet * k + j) 0
-    at j l (yes e) = rw e (getD-set-same found i (getD kept (keptSet * k + i) 0) 0 (omega (arith, c .size)))
-    at j l (no o) = getD-set-other found i j (getD kept (keptSet * k + i) 0) 0 o ∙ c .copied j (omega arith)
-
-pub copied-all : (kept : List ℕ) (k i : ℕ) (found : List ℕ) → i ≡ keptSet → Copied kept k i found → Recalled kept k found
-copied-all kept k i found e c = record { size = c .size; members = λ q. at q (decLt q keptMasks) }
-  where
-    at : (q : ℕ) → Dec (q < keptMasks) → InSet found q ↔ ((q < keptMasks) × KeptIn kept k q)
-    at q (yes l) = let f = c .copied (q / 16) (omega arith) in (λ h. (l, rw f at h), λ (l′, h). rw f h)
-    at q (no o) =
-        let f = c .others (q / 16) (omega arith) in
-        (λ h. absurd (has-none (q % 16) (rw f at h)), λ (l, h). absurd (o l))
-
--- once its words are cleared the set is empty again
-pub recalled-cleared : (kept : List ℕ) (k : ℕ) (found : List ℕ) → Recalled kept k found → ((v : ℕ) → getD found v 0 < masks)
-    → replicate keptSet 0 ++ drop keptSet found ≡ replicate setWords 0
-recalled-cleared kept k found r small = cleared-empty found keptSet (r .size) (omega arith) small (λ q h. let l = r .members q .0 h .0 in omega arith)
+  pub part-members : (q : ℕ) → InSet (take (end - first) (drop first kept)) q ↔ ((q < keptMasks) × KeptIn kept k q)
+  part-members q = at (decLt q keptMasks)
+    where
+      at : Dec (q < keptMasks) → InSet (take (end - first) (drop first kept)) q ↔ ((q < keptMasks) × KeptIn kept k q)
+      at (yes l) = let f = part-word (q / 16) (omega arith) in (λ h. (l, rw f at h), λ (l′, h). rw f h)
+      at (no o) = (
+        λ h. absurd (has-none (q % 16) (rw (List·getD-eq-default (take (end - first) (drop first kept)) 0 {n = q / 16} (omega (arith, part-length))) at h)),
+        λ (l, h). absurd (o l),
+      )
 
 -- the first i words of the set of clause k have what is found besides
 pub record Beside (found : List ℕ) (k i : ℕ) (kept₀ kept : List ℕ) : Type 0 where

@@ -1,5 +1,7 @@
--- The laws of a clause in a round: where it stands, the marks on its head and those that are kept, and what it ends in.
+-- The laws of a clause's head in a round: where it stands, the marks on it and those that are kept, the shapes of the calls to it, and what the clause ends in.
 pub mod ClauseRows
+pub mod AtShapes
+pub mod HeadShapes
 pub mod HeadMarks
 pub mod KeptWords
 pub mod KeptMarks

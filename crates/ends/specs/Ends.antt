@@ -1,4 +1,4 @@
--- What a clause ends in, and the scratch that it is lent.
+-- What a clause gives with its head and ends in, and the scratch that it is lent.
 use Prim.Native.Nat.{ℕ}
 use mathlib.Core.Path.{_≡_}
 use mathlib.Core.Logic.{_⊎_}
@@ -7,9 +7,7 @@ use lib.ListN.{length, replicate}
 use Rattle.marks.specs.Modes.{modes}
 use Rattle.program.specs.Program.{Program}
 use Rattle.rows.specs.MaskSet.{setWords}
-use Rattle.table.specs.Rules.{call}
-use Rattle.table.specs.Steps.{EndsIn}
-use Rattle.table.specs.NewRows.{New, NewOnHead, NewEnds, LateCalls}
+use Rattle.table.specs.NewRows.{NewGoesOn, NewEnds, LateCalls}
 use Rattle.table.specs.RoundKeys.{Keyed}
 use Rattle.steps.specs.Steps.{RowsIn}
 
@@ -17,15 +15,9 @@ use Rattle.steps.specs.Steps.{RowsIn}
 abbrev pub AtEnd : Program → List ℕ → List ℕ → ℕ → ℕ → Type 0
 AtEnd p ks₀ ks k key = Keyed p (NewEnds modes p (RowsIn p ks₀) (RowsIn p ks) k) key ⊎ Keyed p (LateCalls modes p (RowsIn p ks₀) (RowsIn p ks) k) key
 
--- what clause k ends in by marks on its head that result from rows `marked` with one that is not in ks₀, and by call rows that are not in `from`
-abbrev pub EndsBy : Program → List ℕ → List ℕ → List ℕ → List ℕ → ℕ → ℕ → Type 0
-EndsBy p ks₀ marked from ks k =
-    Keyed p (λ row.
-    (N : ℕ) × NewOnHead modes p (RowsIn p ks₀) (RowsIn p marked) k N × (s : ℕ) × (C : ℕ) × New modes p (RowsIn p from) (RowsIn p ks) (call s C) × EndsIn modes p k N s C row)
-
--- and by marks from all rows so far
-abbrev pub EndsSince : Program → List ℕ → List ℕ → List ℕ → ℕ → ℕ → Type 0
-EndsSince p ks₀ from ks k = EndsBy p ks₀ ks from ks k
+-- what a round looks at with the head of clause k: what new call rows open, and what the clause ends in
+abbrev pub WithHead : Program → List ℕ → List ℕ → ℕ → ℕ → Type 0
+WithHead p ks₀ ks k key = Keyed p (NewGoesOn modes p (RowsIn p ks₀) (RowsIn p ks) k 0) key ⊎ AtEnd p ks₀ ks k key
 
 -- the scratch of a round: nothing seen, nothing found, and a list for the answers
 pub record Scratch (seen answers found : List ℕ) : Type 0 where

@@ -6,7 +6,6 @@ use mathlib.Core.List.{List}
 use lib.ListN.{length, getD}
 use Rattle.terms.specs.Mask.{Has}
 use Rattle.program.specs.Program.{Nth, Clause, Program}
-use Rattle.rows.specs.MaskSet.{setWords, InSet}
 use Rattle.steps.specs.Situation.{Setting}
 use Rattle.steps.specs.Heads.{HeadMark}
 
@@ -44,11 +43,6 @@ pub record Keeping (p : Program) (table kept : List ℕ) (n : ℕ) : Type 0 wher
 
 abbrev pub Keeps : List ℕ → List ℕ → List ℕ → List ℕ → ℕ → Type 0
 Keeps words dir table kept n = (p : Program) → Setting words dir p → Keeping p table kept n
-
--- a set of masks has just what is kept for clause k
-pub record Recalled (kept : List ℕ) (k : ℕ) (found : List ℕ) : Type 0 where
-  pub size : length found ≡ setWords
-  pub members : (q : ℕ) → InSet found q ↔ ((q < keptMasks) × KeptIn kept k q)
 
 -- the set of clause k has gained these masks, and nothing else has changed
 pub record Gained (P : ℕ → Type 0) (k : ℕ) (kept kept′ : List ℕ) : Type 0 where

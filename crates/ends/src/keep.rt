@@ -1,27 +1,15 @@
 // The marks on the heads of clauses that are kept between rounds: a set of 512 masks for each clause, and how many rows it is the result of.
 ghost use mathlib.Core.Path.{_≡_};
 ghost use Prim.Native.Nat.{_<_};
-ghost use lib.ListN.{length, replicate};
+ghost use lib.ListN.{length};
 ghost use Rattle.rows.specs.MaskSet.{setWords, InSet};
-ghost use Rattle.ends.specs.Keeping.{keptWords, Recalled, Gained};
+ghost use Rattle.ends.specs.Keeping.{keptWords, Gained};
 
 pub const KEPT_VARS: usize = 9;
 
 pub const KEPT_SET: usize = 32;
 
 pub const KEPT_ROWS: usize = 2048;
-
-// The marks kept for clause k, into an empty set.
-pub fn recall(kept: &[u16], k: usize, found: &mut [u16])
-    requires { ⌜ (length (now kept) ≡ keptWords) × (k < 64) × (now found ≡ replicate setWords 0) ⌝ }
-    ensures { λ _. ⌜ Recalled (now (kept .entry)) k (now (found .exit)) ⌝ }
-{
-    let mut i = 0;
-    while i < KEPT_SET {
-        found[i] = kept[KEPT_SET * k + i];
-        i += 1;
-    }
-}
 
 // The marks in the set `found`, beside those that are kept for clause k.
 pub fn keep(found: &[u16], k: usize, kept: &mut [u16])

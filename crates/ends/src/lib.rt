@@ -1,3 +1,4 @@
-// The end of a clause in a round: marks on its head, rule 3 with them, and the marks that are kept between rounds.
+// A clause's head in a round: the marks on it, the calls to it, and the marks that are kept between rounds.
 pub mod ends;
+pub mod heads;
 pub mod keep;

@@ -75,7 +75,7 @@ module _ {table₀ sets known found : List ℕ} {since old newest slot here ther
     to-now = to-stays (a .to) table n behind (g .same-rows) (g .same-length)
 
     pub found-now : FoundFor to-now found marks
-    found-now = found-stays (a .to) table n behind (g .same-rows) (g .same-length) found marks (a .found-for)
+    found-now = found-stays p table₀ table old n (a .to .k) _ found marks behind (g .same-rows) (a .found-for)
 
     abbrev pub found-asked : ShapeAsked table sets found since 0 old newest slot here there marks
     found-asked = record { to = to-now; shape-sets = a .shape-sets; found-for = found-now; from-within = omega arith }

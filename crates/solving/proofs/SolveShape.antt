@@ -24,7 +24,7 @@ use Rattle.table.specs.Keys.{keyOf}
 use Rattle.table.specs.NewRows.{NewReached}
 use Rattle.table.specs.RoundKeys.{Keyed}
 use Rattle.steps.specs.Steps.{RowsIn, Writable, Grew, Stepped}
-use Rattle.steps.specs.Heads.{HeadMark}
+use Rattle.steps.specs.Heads.{HeadMark, FoundOn}
 use Rattle.solving.specs.Solving.{ToShape, PassesTo, SolvedBy, SolvedBelow, SetKeys, CallsAsked, ShapeSets, FoundFor}
 use Rattle.steps.proofs.Stepping.{keys-stay, grew-none, grew-must, stepped-then, stepped-within, stepped-past}
 use Rattle.steps.proofs.SlotRows.{chains-stay}
@@ -40,6 +40,10 @@ head-stays p table₀ table old n k i q l same h =
       reached = subst (λ (ks : List ℕ). NewReached modes p (RowsIn p []) (RowsIn p ks) k i (h .N)) (sym (keys-stay table₀ table n old l same)) (h .reached);
       kept = h .kept;
     }
+
+pub found-stays : (p : Program) (table₀ table : List ℕ) (old n k i : ℕ) (found : List ℕ) (marks : ℕ) → old ≤ n → SameRows table₀ table n → FoundOn p table₀ old k i found marks → FoundOn p table old k i found marks
+found-stays p table₀ table old n k i found marks l same f =
+    record { few = f .few; within = f .within; below = f .below; result = λ q h. head-stays p table₀ table old n k i q l same (f .result q h) }
 
 module _ {table₀ : List ℕ} {since old newest slot : ℕ} (w : ToShape table₀ since old newest slot) (table : List ℕ) (n : ℕ) (behind : old ≤ n)
     (same : SameRows table₀ table n) (l : length table ≡ length table₀) where
@@ -64,10 +68,6 @@ module _ {table₀ : List ℕ} {since old newest slot : ℕ} (w : ToShape table�
 
   pub passes-stay : (mask q : ℕ) → PassesTo w mask q → PassesTo to-stays mask q
   passes-stay mask q h = record { marks = head-stays (w .p) table₀ table old n (w .k) _ q behind same (h .marks); passed = h .passed }
-
-  pub found-stays : (found : List ℕ) (marks : ℕ) → FoundFor w found marks → FoundFor to-stays found marks
-  found-stays found marks f =
-      record { few = f .few; within = f .within; below = f .below; result = λ q h. head-stays (w .p) table₀ table old n (w .k) _ q behind same (f .result q h) }
 
   pub solved-stays : (from q : ℕ) (row : Row ℕ) → from ≤ old → SolvedBy w from q row → SolvedBy to-stays from q row
   solved-stays from q row l h =

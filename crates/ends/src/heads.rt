@@ -1,0 +1,178 @@
+// A clause's head and the shapes of the calls to it. Each pair of shape and head is unified once: the new call rows of the shape open the body, and
+// marks on the head go to its call rows.
+use calling::calls::emit_shape;
+use directory::layout::BODY_CELLS;
+use directory::layout::BODY_START;
+use directory::layout::CLAUSE_CELLS;
+use directory::layout::CLAUSE_FIRST;
+use directory::layout::CLAUSE_HEAD;
+use directory::layout::CLAUSE_VARS;
+use directory::layout::PREDICATE_SHAPE;
+use directory::layout::SHAPE_NEXT;
+use directory::layout::SHAPE_VARS;
+use solving::solve::solve_shape;
+use steps::meet::first_variables;
+use steps::meet::meet;
+use steps::meet::order_of;
+use steps::place::Round;
+use steps::place::SOLUTIONS;
+use terms::walk::narrow;
+use terms::walk::wide;
+ghost use mathlib.Core.Path.{_≡_};
+ghost use Prim.Native.Nat.{_≤_};
+ghost use lib.ListN.{length, replicate};
+ghost use Rattle.rows.specs.Rows.{keysOf};
+ghost use Rattle.rows.specs.MaskSet.{setWords};
+ghost use Rattle.steps.specs.Steps.{Writable, Stepped};
+ghost use Rattle.ends.specs.AtHead.{AtShape, ShapeGives, AtHead, HeadGives};
+
+// Shape s, which unifies with the head: rules 1 and 3 with its call rows. The clause's body atoms are first..end.
+fn at_shape(
+    dir: &[u16],
+    order: &[u8; 16],
+    count: usize,
+    table: &mut [u16],
+    buckets: &mut [u16],
+    seen: &mut [u16],
+    solved: &mut [u16],
+    n: usize,
+    at: Round,
+    s: usize,
+    newest: usize,
+    sets: &[u32; 32],
+    there: u16,
+    first: usize,
+    end: usize,
+    known: &[u16],
+    known_marks: usize,
+    found: &[u16],
+    marks: usize,
+) -> usize
+    requires { ⌜ AtShape (now dir) (now order) (now table) (now sets) (now known) (now found) count (at .since) (at .rows) s newest there first end «known_marks» marks
+        × Writable (now table) (now buckets) n (at .room) × (at .rows ≤ n) × (now seen ≡ replicate setWords 0) × (length (now solved) ≡ setWords) ⌝ }
+    ensures { λ r. ⌜ (now (seen .exit) ≡ replicate setWords 0)
+        × ((a : AtShape (now (dir .entry)) (now (order .entry)) (now (table .entry)) (now (sets .entry)) (now (known .entry)) (now (found .entry)) count (at .since) (at .rows) s newest there first end «known_marks» marks)
+        → Stepped (a .p) (keysOf (now (table .entry)) (at .rows)) (at .number) (at .room) n (now (table .entry)) (now (buckets .entry))
+        (ShapeGives (a .p) (keysOf (now (table .entry)) (at .since)) (keysOf (now (table .entry)) (at .rows)) (a .k) (now (known .entry)) (now (found .entry)) s) r (now (table .exit)) (now (buckets .exit))) ⌝ }
+{
+    let room = at.room;
+    let here = first_variables(wide(dir[SHAPE_VARS + s]));
+    let mut rows = n;
+    if first < end {
+        rows = emit_shape(
+            dir,
+            order,
+            count,
+            table,
+            buckets,
+            rows,
+            at,
+            newest,
+            sets,
+            here,
+            there,
+            first,
+        );
+        if room < rows {
+            return rows;
+        }
+    }
+    solve_shape(
+        table,
+        buckets,
+        rows,
+        at,
+        newest,
+        narrow(SOLUTIONS + s),
+        sets,
+        here,
+        there,
+        known,
+        known_marks,
+        found,
+        marks,
+        seen,
+        solved,
+    )
+}
+
+// The head of clause k and every shape of its predicate that has a new call row, or, where there are marks in the set `found`, any call row.
+// Marks in the set `known` go to the new call rows, those in the set `found` to all.
+pub fn at_head<'a>(
+    words: &'a [u16],
+    dir: &'a [u16],
+    table: &mut [u16],
+    buckets: &mut [u16],
+    heads: &[u16],
+    seen: &mut [u16],
+    solved: &mut [u16],
+    n: usize,
+    at: Round,
+    k: usize,
+    known: &[u16],
+    known_marks: usize,
+    found: &[u16],
+    marks: usize,
+) -> usize
+    requires { ⌜ AtHead (now words) (now dir) (now table) (now heads) (now known) (now found) (at .since) (at .rows) k «known_marks» marks
+        × Writable (now table) (now buckets) n (at .room) × (at .rows ≤ n) × (now seen ≡ replicate setWords 0) × (length (now solved) ≡ setWords) ⌝ }
+    ensures { λ r. ⌜ (now (seen .exit) ≡ replicate setWords 0)
+        × ((a : AtHead (now (words .entry)) (now (dir .entry)) (now (table .entry)) (now (heads .entry)) (now (known .entry)) (now (found .entry)) (at .since) (at .rows) k «known_marks» marks)
+        → Stepped (a .head .situation .p) (keysOf (now (table .entry)) (at .rows)) (at .number) (at .room) n (now (table .entry)) (now (buckets .entry))
+        (HeadGives (a .head .situation .p) (keysOf (now (table .entry)) (at .since)) (keysOf (now (table .entry)) (at .rows)) k (now (known .entry)) (now (found .entry))) r (now (table .exit)) (now (buckets .exit))) ⌝ }
+{
+    let room = at.room;
+    let start = wide(dir[CLAUSE_HEAD + k]);
+    let cells = wide(dir[CLAUSE_CELLS + k]);
+    let there = first_variables(wide(dir[CLAUSE_VARS + k]));
+    let first = wide(dir[CLAUSE_FIRST + k]);
+    let end = wide(dir[CLAUSE_FIRST + k + 1]);
+    let mut order = [0u8; 16];
+    let mut count = 0;
+    if first < end {
+        let body = wide(dir[BODY_START + first]);
+        let behind = body + wide(dir[BODY_CELLS + first]);
+        count = order_of(&words[body..behind], &mut order);
+    }
+    let mut from = at.since;
+    if 0 < marks {
+        from = 0;
+    }
+    let mut sets = [0u32; 32];
+    let mut rows = n;
+    let mut link = wide(dir[PREDICATE_SHAPE + wide(words[start])]);
+    while 0 < link {
+        let s = link - 1;
+        let newest = wide(heads[s]);
+        if from < newest {
+            if meet(words, dir, s, start, cells, &mut sets) {
+                rows = at_shape(
+                    dir,
+                    &order,
+                    count,
+                    table,
+                    buckets,
+                    seen,
+                    solved,
+                    rows,
+                    at,
+                    s,
+                    newest,
+                    &sets,
+                    there,
+                    first,
+                    end,
+                    known,
+                    known_marks,
+                    found,
+                    marks,
+                );
+                if room < rows {
+                    return rows;
+                }
+            }
+        }
+        link = wide(dir[SHAPE_NEXT + s]);
+    }
+    rows
+}
