@@ -1,98 +1,47 @@
-// Runs the sample texts: prints the name of each for which something else is printed than expected, and then how many agree.
-// A sample on standard input: a line with the length of its text and of what is expected, in five digits each, and its name; then the two.
-use check::same;
-use frames::length_of;
+// Tries the sample texts of the data folder, whose names stand on standard input, one a line: prints what the reader replies to each, what it
+// reads, and whether the whole path prints what is expected; then the replies to a text with bad bytes; and last how many samples agree.
+mod bad_bytes;
+mod files;
+mod reading;
+mod samples;
+
+use bad_bytes::try_bad_bytes;
+use cases::print;
+use files::load;
 use libc::STDIN_FILENO;
-use libc::STDOUT_FILENO;
-use printing::print::print;
-ghost use mathlib.Core.Path.{_≡_};
-ghost use mathlib.Core.Bool.{true};
-ghost use Prim.Native.Nat.{_≤_};
-ghost use lib.ListN.{length};
-ghost use Rattle.printing.specs.Printed.{listingRoom, Printed};
+use samples::try_sample;
+use text::cut::LINE_FEED;
+use text::cut::find;
 
-const HEAD: usize = 37;
-
-const NAME_AT: usize = 12;
-
-// Whether a text is printed as expected.
-fn agrees(text: &[u8], expected: &[u8], out: &mut [u8]) -> bool
-    requires { ⌜ length (now out) ≡ listingRoom ⌝ }
-    ensures { λ r. ⌜ (r ≡ true → Printed (now (text .entry)) (now (expected .entry))) × (Printed (now (text .entry)) (now (expected .entry)) → r ≡ true) ⌝ }
-{
-    let end = print(text, out);
-    same(&out[..end], expected)
+struct Tally {
+    agreed: usize,
+    tried: usize,
 }
 
-// Whether there was a sample, and how many agree: one or none.
-struct Tried {
-    found: bool,
-    agreed: u64,
-}
-
-// One sample.
-fn one(text: &mut [u8], expected: &mut [u8], out: &mut [u8]) -> Tried
-    requires { ⌜ length (now out) ≡ listingRoom ⌝ }
-    ensures { λ r. ⌜ r .agreed ≤ 1 ⌝ }
-{
-    let mut head = [0u8; 37];
-    if io::read_full(STDIN_FILENO, &mut head) != HEAD {
-        return Tried {
-            found: false,
-            agreed: 0,
-        };
+// Every sample that is named.
+fn try_samples(names: &[u8], text: &mut [u8], expected: &mut [u8]) -> Tally {
+    let mut agreed = 0;
+    let mut tried = 0;
+    let mut at = 0;
+    while at < names.len() {
+        let end = find(names, at, LINE_FEED);
+        agreed += try_sample(&names[at..end], text, expected);
+        tried += 1;
+        at = end + 1;
     }
-    let size = length_of(head[0], head[1], head[2], head[3], head[4]);
-    let expected_size = length_of(head[6], head[7], head[8], head[9], head[10]);
-    if text.len() < size {
-        return Tried {
-            found: false,
-            agreed: 0,
-        };
-    }
-    if expected.len() < expected_size {
-        return Tried {
-            found: false,
-            agreed: 0,
-        };
-    }
-    io::read_full(STDIN_FILENO, &mut text[..size]);
-    io::read_full(STDIN_FILENO, &mut expected[..expected_size]);
-    if agrees(&text[..size], &expected[..expected_size], out) {
-        return Tried {
-            found: true,
-            agreed: 1,
-        };
-    }
-    io::write_all(STDOUT_FILENO, b"differs\t");
-    io::write_all(STDOUT_FILENO, &head[NAME_AT..]);
-    Tried {
-        found: true,
-        agreed: 0,
-    }
-}
-
-fn report(agreed: u64, tried: u64) {
-    io::print_decimal(STDOUT_FILENO, agreed);
-    io::write_all(STDOUT_FILENO, b" of ");
-    io::print_decimal(STDOUT_FILENO, tried);
-    io::write_all(STDOUT_FILENO, b" agree\n");
+    Tally { agreed, tried }
 }
 
 fn main() {
+    let mut names = io::large_buffer();
     let mut text = io::large_buffer();
     let mut expected = io::large_buffer();
-    let mut out = io::large_buffer();
-    let mut tried: u64 = 0;
-    let mut agreed: u64 = 0;
-    while tried < 100000 {
-        let sample = one(&mut text, &mut expected, &mut out);
-        if !sample.found {
-            report(agreed, tried);
-            return;
-        }
-        tried += 1;
-        agreed += sample.agreed;
+    let names_size = io::read_full(STDIN_FILENO, &mut names);
+    let tally = try_samples(&names[..names_size], &mut text, &mut expected);
+    let size = load(b"legs", b".in", &mut text);
+    if size < text.len() {
+        try_bad_bytes(&mut text[..size]);
     }
-    report(agreed, tried);
+    print(tally.agreed, b" of ");
+    print(tally.tried, b" agree\n");
 }

@@ -1,2 +1,0 @@
--- Laws of reading a sample of a known length.
-pub mod Fronts
