@@ -21,7 +21,7 @@ const USAGE: &str = "usage:
   bench                    compare the library's answers with the reference's, then their times
   bench times              the times alone
   bench large              what the large programs cost the reference
-  bench reference FOLDER   hold the reference against a folder of samples (texts/, words.txt)
+  bench reference FOLDER   hold the reference against a folder of samples (NAME.in, NAME.out; words.txt)
   bench reference TEXT     what `modes` prints for a scenario text, by the reference";
 
 fn main() {

@@ -4,20 +4,26 @@ use crate::reference::{analyse, modes, Reply};
 use std::fs;
 use std::path::Path;
 
-/// Holds the reference against a folder of samples; how many differ.
+/// Holds the reference against a folder of samples, the texts in it or in its `texts/`, and `words.txt` if it is there; how many differ.
 pub fn check(folder: &Path) -> usize {
-    let texts = check_texts(&folder.join("texts"));
-    let words = check_words(&fs::read_to_string(folder.join("words.txt")).expect("words.txt"));
+    let below = folder.join("texts");
+    let texts = check_texts(if below.is_dir() { &below } else { folder });
     println!("texts: {} agree, {} differ", texts.0, texts.1);
+    let Ok(cases) = fs::read_to_string(folder.join("words.txt")) else {
+        println!("words: no words.txt");
+        return texts.1;
+    };
+    let words = check_words(&cases);
     println!("words: {} agree, {} differ", words.0, words.1);
     texts.1 + words.1
 }
 
 fn check_texts(folder: &Path) -> (usize, usize) {
-    let entries = fs::read_dir(folder).expect("the folder texts");
+    let entries = fs::read_dir(folder).expect("the folder of the texts");
     let mut inputs: Vec<_> = entries.map(|e| e.expect("an entry").path()).collect();
     inputs.retain(|path| path.extension().is_some_and(|e| e == "in"));
     inputs.sort();
+    assert!(!inputs.is_empty(), "no NAME.in in {}", folder.display());
     let (mut agree, mut differ) = (0, 0);
     for path in inputs {
         let printed = modes(&fs::read(&path).expect("a text"));
