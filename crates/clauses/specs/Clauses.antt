@@ -25,7 +25,3 @@ pub record MiddlesAsked (words dir table heads : List ℕ) (since rows first las
 -- what marks go on to past the first i places of clause k: ks₀ are the keys of the round before, ks those so far
 abbrev pub PastPlaces : Program → List ℕ → List ℕ → ℕ → ℕ → ℕ → Type 0
 PastPlaces p ks₀ ks k i = Below (λ i. Keyed p (NewGoesOn modes p (RowsIn p ks₀) (RowsIn p ks) k (suc i))) i
-
--- the rows for the first i body atoms of clause k
-abbrev pub Places : Program → List ℕ → List ℕ → ℕ → ℕ → ℕ → Type 0
-Places p ks₀ ks k i = Below (λ i. Keyed p (NewGoesOn modes p (RowsIn p ks₀) (RowsIn p ks) k i)) i

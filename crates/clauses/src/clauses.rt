@@ -1,6 +1,5 @@
 // A clause in a round: the combinations with a row of the last round, place by place.
 use crate::ending::end_clause;
-use calling::calls::first_place;
 use directory::layout::CLAUSE_FIRST;
 use joining::joins::middle_place;
 use steps::place::Round;
@@ -16,7 +15,7 @@ ghost use Rattle.table.specs.RoundKeys.{Keyed};
 ghost use Rattle.steps.specs.Situation.{HeadAsked};
 ghost use Rattle.steps.specs.Steps.{RowsIn, Writable, Stepped};
 ghost use Rattle.ends.specs.Ends.{Scratch};
-ghost use Rattle.clauses.specs.Clauses.{MiddlesAsked, PastPlaces, Places};
+ghost use Rattle.clauses.specs.Clauses.{MiddlesAsked, PastPlaces};
 ghost use Rattle.ends.specs.Keeping.{Keeps};
 
 // The middle places of a clause, whose body atoms are first..last.
@@ -64,51 +63,6 @@ fn middle_places<'a>(
     rows
 }
 
-// The places of clause k: rows for each of its body atoms.
-fn places<'a>(
-    words: &'a [u16],
-    dir: &'a [u16],
-    table: &mut [u16],
-    buckets: &mut [u16],
-    heads: &[u16],
-    seen: &mut [u16],
-    answers: &mut [u16],
-    n: usize,
-    at: Round,
-    k: usize,
-) -> usize
-    requires { ⌜ HeadAsked (now words) (now dir) (now table) (now heads) (at .since) (at .rows) k × Writable (now table) (now buckets) n (at .room) × (at .rows ≤ n)
-        × (now seen ≡ replicate setWords 0) × (length (now answers) ≡ 4096) ⌝ }
-    ensures { λ r. ⌜ (now (seen .exit) ≡ replicate setWords 0)
-        × ((w : HeadAsked (now (words .entry)) (now (dir .entry)) (now (table .entry)) (now (heads .entry)) (at .since) (at .rows) k)
-        → Stepped (w .situation .p) (keysOf (now (table .entry)) (at .rows)) (at .number) (at .room) n (now (table .entry)) (now (buckets .entry))
-        (Places (w .situation .p) (keysOf (now (table .entry)) (at .since)) (keysOf (now (table .entry)) (at .rows)) k (length (w .clause .c .body))) r (now (table .exit)) (now (buckets .exit))) ⌝ }
-{
-    let room = at.room;
-    let first = wide(dir[CLAUSE_FIRST + k]);
-    let end = wide(dir[CLAUSE_FIRST + k + 1]);
-    if first == end {
-        return n;
-    }
-    let rows = first_place(words, dir, table, buckets, heads, n, at, k, first);
-    if room < rows {
-        return rows;
-    }
-    middle_places(
-        words,
-        dir,
-        table,
-        buckets,
-        heads,
-        seen,
-        answers,
-        rows,
-        at,
-        first,
-        end - 1,
-    )
-}
-
 // All that a round looks at in clause k.
 pub fn clause<'a>(
     words: &'a [u16],
@@ -133,9 +87,26 @@ pub fn clause<'a>(
         × (r ≤ at .room → Keeps (now (words .entry)) (now (dir .entry)) (now (table .exit)) (now (kept .exit)) (at .rows)) ⌝ }
 {
     let room = at.room;
-    let rows = places(words, dir, table, buckets, heads, seen, answers, n, at, k);
-    if room < rows {
-        return rows;
+    let first = wide(dir[CLAUSE_FIRST + k]);
+    let end = wide(dir[CLAUSE_FIRST + k + 1]);
+    let mut rows = n;
+    if first < end {
+        rows = middle_places(
+            words,
+            dir,
+            table,
+            buckets,
+            heads,
+            seen,
+            answers,
+            rows,
+            at,
+            first,
+            end - 1,
+        );
+        if room < rows {
+            return rows;
+        }
     }
     end_clause(
         words,

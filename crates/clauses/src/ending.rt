@@ -1,140 +1,27 @@
-// The end of a clause in a round, with the marks on its head that are kept: old marks are not made again for the sake of a new call row.
+// The head of a clause in a round: what its new call rows open, and what the clause ends in. Marks on a head of few variables are kept between rounds.
 use directory::layout::CLAUSE_HEAD;
 use directory::layout::CLAUSE_VARS;
-use ends::ends::end_all;
 use ends::ends::head_marks;
+use ends::heads::at_head;
 use ends::keep::KEPT_ROWS;
 use ends::keep::KEPT_SET;
 use ends::keep::KEPT_VARS;
 use ends::keep::keep;
-use ends::keep::recall;
 use rows::zeros::clear;
-use solving::solve::solve;
 use steps::place::Round;
 use steps::since::any_since;
 use terms::walk::narrow;
 use terms::walk::wide;
-ghost use mathlib.Core.Path.{_≡_};
-ghost use mathlib.Core.List.{[]};
 ghost use Prim.Native.Nat.{_+_, _≤_};
-ghost use lib.ListN.{length, getD};
+ghost use lib.ListN.{getD};
 ghost use Rattle.directory.specs.Layout.{clauseVars};
 ghost use Rattle.rows.specs.Rows.{keysOf};
 ghost use Rattle.steps.specs.Situation.{HeadAsked};
 ghost use Rattle.steps.specs.Steps.{Writable, Stepped};
-ghost use Rattle.steps.specs.Heads.{HeadMark};
-ghost use Rattle.ends.specs.Ends.{EndsBy, EndsSince, AtEnd, Scratch};
-ghost use Rattle.ends.specs.Keeping.{keptVars, keptWords, knownOf, Keeps, Gained};
+ghost use Rattle.ends.specs.Ends.{WithHead, Scratch};
+ghost use Rattle.ends.specs.Keeping.{keptVars, Keeps};
 
-// The kept marks on the head of clause k to the new call rows, where there are any.
-fn end_known<'a>(
-    words: &'a [u16],
-    dir: &'a [u16],
-    table: &mut [u16],
-    buckets: &mut [u16],
-    heads: &[u16],
-    seen: &mut [u16],
-    answers: &mut [u16],
-    found: &mut [u16],
-    kept: &[u16],
-    n: usize,
-    at: Round,
-    k: usize,
-) -> usize
-    requires { ⌜ HeadAsked (now words) (now dir) (now table) (now heads) (at .since) (at .rows) k × Writable (now table) (now buckets) n (at .room) × (at .rows ≤ n)
-        × Scratch (now seen) (now answers) (now found) × Keeps (now words) (now dir) (now table) (now kept) (at .rows)
-        × (getD (now dir) (clauseVars + k) 0 ≤ keptVars) ⌝ }
-    ensures { λ r. ⌜ Scratch (now (seen .exit)) (now (answers .exit)) (now (found .exit))
-        × ((w : HeadAsked (now (words .entry)) (now (dir .entry)) (now (table .entry)) (now (heads .entry)) (at .since) (at .rows) k)
-        → Stepped (w .situation .p) (keysOf (now (table .entry)) (at .rows)) (at .number) (at .room) n (now (table .entry)) (now (buckets .entry))
-        (EndsBy (w .situation .p) [] (keysOf (now (table .entry)) (knownOf (now (kept .entry)) k)) (keysOf (now (table .entry)) (at .since)) (keysOf (now (table .entry)) (at .rows)) k) r (now (table .exit)) (now (buckets .exit))) ⌝ }
-{
-    let since = at.since;
-    if kept[KEPT_ROWS + k] == 0 {
-        return n;
-    }
-    let predicate = wide(words[wide(dir[CLAUSE_HEAD + k])]);
-    if !any_since(dir, heads, predicate, 0, since) {
-        return n;
-    }
-    recall(kept, k, found);
-    let rows = solve(
-        words,
-        dir,
-        table,
-        buckets,
-        heads,
-        seen,
-        answers,
-        n,
-        at,
-        k,
-        found,
-        since,
-    );
-    clear(found, KEPT_SET);
-    rows
-}
-
-// Marks on the head of clause k that are not known yet, to all call rows. They are kept.
-fn end_new<'a>(
-    words: &'a [u16],
-    dir: &'a [u16],
-    table: &mut [u16],
-    buckets: &mut [u16],
-    heads: &[u16],
-    seen: &mut [u16],
-    answers: &mut [u16],
-    found: &mut [u16],
-    kept: &mut [u16],
-    n: usize,
-    at: Round,
-    known: usize,
-    k: usize,
-) -> usize
-    requires { ⌜ HeadAsked (now words) (now dir) (now table) (now heads) (at .since) (at .rows) k × Writable (now table) (now buckets) n (at .room) × (at .rows ≤ n)
-        × Scratch (now seen) (now answers) (now found) × (known ≤ at .rows) × (length (now kept) ≡ keptWords) ⌝ }
-    ensures { λ r. ⌜ Scratch (now (seen .exit)) (now (answers .exit)) (now (found .exit))
-        × ((w : HeadAsked (now (words .entry)) (now (dir .entry)) (now (table .entry)) (now (heads .entry)) (at .since) (at .rows) k)
-        → Stepped (w .situation .p) (keysOf (now (table .entry)) (at .rows)) (at .number) (at .room) n (now (table .entry)) (now (buckets .entry))
-        (EndsSince (w .situation .p) (keysOf (now (table .entry)) known) [] (keysOf (now (table .entry)) (at .rows)) k) r (now (table .exit)) (now (buckets .exit))
-        × Gained (HeadMark (w .situation .p) (now (table .entry)) known (at .rows) k (length (w .clause .c .body))) k (now (kept .entry)) (now (kept .exit))) ⌝ }
-{
-    let before = at.rows;
-    if !head_marks(
-        words,
-        dir,
-        table,
-        heads,
-        seen,
-        answers,
-        known,
-        before,
-        k,
-        found,
-    ) {
-        return n;
-    }
-    let rows = solve(
-        words,
-        dir,
-        table,
-        buckets,
-        heads,
-        seen,
-        answers,
-        n,
-        at,
-        k,
-        found,
-        0,
-    );
-    keep(found, k, kept);
-    clear(found, ((1usize << wide(dir[CLAUSE_VARS + k])) + 15) / 16);
-    rows
-}
-
-// Rule 3 for clause k, whose marks are kept: those that are known to the new call rows, and the others to all.
+// A clause whose marks are kept: those that are known go to the new call rows, and the others to all.
 fn end_kept<'a>(
     words: &'a [u16],
     dir: &'a [u16],
@@ -151,17 +38,37 @@ fn end_kept<'a>(
 ) -> usize
     requires { ⌜ HeadAsked (now words) (now dir) (now table) (now heads) (at .since) (at .rows) k × Writable (now table) (now buckets) n (at .room) × (at .rows ≤ n)
         × Scratch (now seen) (now answers) (now found) × Keeps (now words) (now dir) (now table) (now kept) (at .rows)
-        × (getD (now dir) (clauseVars + k) 0 ≤ keptVars) × (knownOf (now kept) k ≤ at .since) ⌝ }
+        × (getD (now dir) (clauseVars + k) 0 ≤ keptVars) ⌝ }
     ensures { λ r. ⌜ Scratch (now (seen .exit)) (now (answers .exit)) (now (found .exit))
         × ((w : HeadAsked (now (words .entry)) (now (dir .entry)) (now (table .entry)) (now (heads .entry)) (at .since) (at .rows) k)
         → Stepped (w .situation .p) (keysOf (now (table .entry)) (at .rows)) (at .number) (at .room) n (now (table .entry)) (now (buckets .entry))
-        (AtEnd (w .situation .p) (keysOf (now (table .entry)) (at .since)) (keysOf (now (table .entry)) (at .rows)) k) r (now (table .exit)) (now (buckets .exit)))
+        (WithHead (w .situation .p) (keysOf (now (table .entry)) (at .since)) (keysOf (now (table .entry)) (at .rows)) k) r (now (table .exit)) (now (buckets .exit)))
         × (r ≤ at .room → Keeps (now (words .entry)) (now (dir .entry)) (now (table .exit)) (now (kept .exit)) (at .rows)) ⌝ }
 {
-    let room = at.room;
     let before = at.rows;
-    let known = wide(kept[KEPT_ROWS + k]);
-    let rows = end_known(
+    let all = 1usize << wide(dir[CLAUSE_VARS + k]);
+    let mut known = wide(kept[KEPT_ROWS + k]);
+    if at.since < known {
+        known = at.since;
+    }
+    let mut marks = 0;
+    if head_marks(
+        words,
+        dir,
+        table,
+        heads,
+        seen,
+        answers,
+        known,
+        before,
+        k,
+        found,
+    ) {
+        marks = all;
+    }
+    let first = KEPT_SET * k;
+    let end = first + KEPT_SET;
+    let rows = at_head(
         words,
         dir,
         table,
@@ -169,16 +76,63 @@ fn end_kept<'a>(
         heads,
         seen,
         answers,
-        found,
-        kept,
         n,
         at,
         k,
+        &kept[first..end],
+        all,
+        found,
+        marks,
     );
-    if room < rows {
-        return rows;
+    keep(found, k, kept);
+    clear(found, KEPT_SET);
+    kept[KEPT_ROWS + k] = narrow(before);
+    rows
+}
+
+// A clause whose marks are not kept: where a call row is new, all marks are collected, else the new ones; they go to all call rows.
+fn end_wide<'a>(
+    words: &'a [u16],
+    dir: &'a [u16],
+    table: &mut [u16],
+    buckets: &mut [u16],
+    heads: &[u16],
+    seen: &mut [u16],
+    answers: &mut [u16],
+    found: &mut [u16],
+    n: usize,
+    at: Round,
+    k: usize,
+) -> usize
+    requires { ⌜ HeadAsked (now words) (now dir) (now table) (now heads) (at .since) (at .rows) k × Writable (now table) (now buckets) n (at .room) × (at .rows ≤ n)
+        × Scratch (now seen) (now answers) (now found) ⌝ }
+    ensures { λ r. ⌜ Scratch (now (seen .exit)) (now (answers .exit)) (now (found .exit))
+        × ((w : HeadAsked (now (words .entry)) (now (dir .entry)) (now (table .entry)) (now (heads .entry)) (at .since) (at .rows) k)
+        → Stepped (w .situation .p) (keysOf (now (table .entry)) (at .rows)) (at .number) (at .room) n (now (table .entry)) (now (buckets .entry))
+        (WithHead (w .situation .p) (keysOf (now (table .entry)) (at .since)) (keysOf (now (table .entry)) (at .rows)) k) r (now (table .exit)) (now (buckets .exit))) ⌝ }
+{
+    let before = at.rows;
+    let mut since = at.since;
+    let predicate = wide(words[wide(dir[CLAUSE_HEAD + k])]);
+    if any_since(dir, heads, predicate, 0, since) {
+        since = 0;
     }
-    let end = end_new(
+    let mut marks = 0;
+    if head_marks(
+        words,
+        dir,
+        table,
+        heads,
+        seen,
+        answers,
+        since,
+        before,
+        k,
+        found,
+    ) {
+        marks = 1usize << wide(dir[CLAUSE_VARS + k]);
+    }
+    let rows = at_head(
         words,
         dir,
         table,
@@ -186,18 +140,19 @@ fn end_kept<'a>(
         heads,
         seen,
         answers,
-        found,
-        kept,
-        rows,
+        n,
         at,
-        known,
         k,
+        &words[..0],
+        0,
+        found,
+        marks,
     );
-    kept[KEPT_ROWS + k] = narrow(before);
-    end
+    clear(found, (marks + 15) / 16);
+    rows
 }
 
-// Rule 3 for clause k: all that it ends in with a row of the last round.
+// All that a round looks at with the head of clause k: what new call rows open, and what the clause ends in with a row of the last round.
 pub fn end_clause<'a>(
     words: &'a [u16],
     dir: &'a [u16],
@@ -217,29 +172,26 @@ pub fn end_clause<'a>(
     ensures { λ r. ⌜ Scratch (now (seen .exit)) (now (answers .exit)) (now (found .exit))
         × ((w : HeadAsked (now (words .entry)) (now (dir .entry)) (now (table .entry)) (now (heads .entry)) (at .since) (at .rows) k)
         → Stepped (w .situation .p) (keysOf (now (table .entry)) (at .rows)) (at .number) (at .room) n (now (table .entry)) (now (buckets .entry))
-        (AtEnd (w .situation .p) (keysOf (now (table .entry)) (at .since)) (keysOf (now (table .entry)) (at .rows)) k) r (now (table .exit)) (now (buckets .exit)))
+        (WithHead (w .situation .p) (keysOf (now (table .entry)) (at .since)) (keysOf (now (table .entry)) (at .rows)) k) r (now (table .exit)) (now (buckets .exit)))
         × (r ≤ at .room → Keeps (now (words .entry)) (now (dir .entry)) (now (table .exit)) (now (kept .exit)) (at .rows)) ⌝ }
 {
-    let since = at.since;
     if wide(dir[CLAUSE_VARS + k]) <= KEPT_VARS {
-        if wide(kept[KEPT_ROWS + k]) <= since {
-            return end_kept(
-                words,
-                dir,
-                table,
-                buckets,
-                heads,
-                seen,
-                answers,
-                found,
-                kept,
-                n,
-                at,
-                k,
-            );
-        }
+        return end_kept(
+            words,
+            dir,
+            table,
+            buckets,
+            heads,
+            seen,
+            answers,
+            found,
+            kept,
+            n,
+            at,
+            k,
+        );
     }
-    end_all(
+    end_wide(
         words,
         dir,
         table,

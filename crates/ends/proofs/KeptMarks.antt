@@ -222,7 +222,7 @@ module _ (words dir table heads : List ℕ) (since rows k : ℕ) (w : HeadAsked 
   kept-mark : (q : ℕ) → InSet part q → HeadMark (w .situation .p) table 0 (knownOf kept k) k (length (w .clause .c .body)) q
   kept-mark q h = let (b, i) = in-part q .0 h in s .members k (w .clause .c) (w .clause .nth-clause) q b .0 i
 
-  few-masks : 2 ^ getD dir (clauseVars + k) 0 ≤ keptMasks
+  pub few-masks : 2 ^ getD dir (clauseVars + k) 0 ≤ keptMasks
   few-masks = pow-mono {j = 9} few
 
   pub kept-on : (marks : ℕ) → marks ≡ 2 ^ getD dir (clauseVars + k) 0 → FoundOn (w .situation .p) table rows k (length (w .clause .c .body)) part marks

@@ -1,17 +1,50 @@
--- `clause` meets its contract: rows for the body atoms, and then those that the clause ends in. Assumes nothing.
+-- `clause` meets its contract: rows for the body atoms behind the first, and then what a round looks at with the head. Assumes nothing.
 use native.Mathlib.Omega.{arith}
-use mathlib.Core.Path.{_∙_}
-use mathlib.Core.Logic.{inr}
-use Rattle.steps.proofs.Stepping.{stepped-within, stepped-past}
-use Rattle.ends.proofs.ClauseRows.{stands-on}
-use Rattle.clauses.proofs.ClausePlaces.{clause-ends}
-use Rattle.ends.proofs.KeptMarks.{step-keeps, keeps-all}
 use borrow.Author.Needs.{needs}
+use mathlib.Core.Path.{_≡_, sym, ap, _∙_}
+use mathlib.Core.Logic.{inl, inr, ⊎-elim}
+use lib.ListN.{length, replicate}
+use Rattle.rows.specs.MaskSet.{setWords}
+use Rattle.steps.specs.Situation.{HeadAsked}
+use Rattle.steps.proofs.Stepping.{stepped-within, stepped-past}
+use Rattle.ends.proofs.ClauseRows.{clause-few, end-after, stands-on}
+use Rattle.ends.proofs.KeptMarks.{step-keeps, keeps-all}
+use Rattle.clauses.proofs.ClausePlaces.{middles-asked, Past, no-places, clause-ends}
 use Rattle.clauses.proofs.clauses.clause.Statement.{statement}
 use Rattle.clauses.proofs.clauses.clause.Tie as tie
 
-places-requires : tie.Need-places-requires
-places-requires c κs = search needs
+add-wide : tie.Need-add-wide
+add-wide c = let few = clause-few _ _ _ _ _ _ _ (c .before .before .before .before .before .before .before .before .before .pre .0) in omega (arith, few .0, few .1)
+
+mul-wide : tie.Need-mul-wide
+mul-wide c = let few = clause-few _ _ _ _ _ _ _ (c .before .before .before .before .before .before .before .before .before .pre .0) in omega (arith, few .0, few .1)
+
+shared-slice-read-wide : tie.Need-shared-slice-read-wide
+shared-slice-read-wide c = let few = clause-few _ _ _ _ _ _ _ (c .before .before .before .before .before .before .before .before .before .before .pre .0) in omega (arith, few .0, few .1)
+
+wide-requires : tie.Need-wide-requires
+wide-requires c κs = search needs
+
+add-wide-2 : tie.Need-add-wide-2
+add-wide-2 c = let few = clause-few _ _ _ _ _ _ _ (c .before .before .before .before .before .before .before .before .before .before .before .pre .0) in omega (arith, few .0, few .1)
+
+add-wide-3 : tie.Need-add-wide-3
+add-wide-3 c = let few = clause-few _ _ _ _ _ _ _ (c .before .before .before .before .before .before .before .before .before .before .before .pre .0) in omega (arith, few .0, few .1)
+
+mul-wide-2 : tie.Need-mul-wide-2
+mul-wide-2 c = let few = clause-few _ _ _ _ _ _ _ (c .before .before .before .before .before .before .before .before .before .before .before .pre .0) in omega (arith, few .0, few .1)
+
+shared-slice-read-wide-2 : tie.Need-shared-slice-read-wide-2
+shared-slice-read-wide-2 c = let few = clause-few _ _ _ _ _ _ _ (c .before .before .before .before .before .before .before .before .before .before .before .before .pre .0) in omega (arith, few .0, few .1)
+
+wide-requires-2 : tie.Need-wide-requires-2
+wide-requires-2 c κs = search needs
+
+sub-middle-places : tie.Need-sub-middle-places
+sub-middle-places c = search needs
+
+middle-places-requires : tie.Need-middle-places-requires
+middle-places-requires c κs = let s = c .before .before .before .before .before .before .before .before .before .before .before .before .before .before .before .before .before .before in (middles-asked _ _ _ _ _ _ _ (s .pre .0) _ _ (c .before .before .before .before .before .before .before .wide .ensures .0) (c .before .before .before .before .before .wide2 .ensures .0) (omega (arith, c .before .before .before .before .if1 .taken, end-after _ _ _ _ _ _ _ (s .pre .0) _ _ (c .before .before .before .before .before .before .before .wide .ensures .0) (c .before .before .before .before .before .wide2 .ensures .0))), s .pre .1, s .pre .2, s .pre .3 .none-seen, s .pre .3 .all-answers)
 
 same-length : tie.Need-same-length
 same-length c = search needs
@@ -26,35 +59,56 @@ same-length-4 : tie.Need-same-length-4
 same-length-4 c = search needs
 
 returns : tie.Need-returns
-returns c = let s = c .before .before .before .before .before .before .before .before .before .before .before .before .before .before .before .before .before .before .before .before .before .before .before in (
-  record { none-seen = c .before .before .before .before .before .before .before .before .before .places .ensures .0; all-answers = c .before .before .before .before .before .before .before .before .before .places .kept .1 .1 .1 .1 .1 .1 .0 ∙ s .pre .3 .all-answers; none-found = s .pre .3 .none-found },
-  λ w. inr (stepped-past _ _ (s .args .at .number) _ _ _ _ _ _ _ _ (c .before .before .before .before .before .before .before .before .before .places .ensures .1 w) (c .if1 .taken)),
-  λ l. absurd (omega (arith, c .if1 .taken)),
-)
+returns c =
+    let s = c .before .before .before .before .before .before .before .before .before .before .before .before .before .before .before .before .before .before .before .before .before .before .before .before .before .before .before .before in (
+      record { none-seen = c .before .before .before .before .before .before .before .before .before .middle-places .ensures .0; all-answers = c .before .before .before .before .before .before .before .before .before .middle-places .kept .1 .1 .1 .1 .1 .1 .0 ∙ s .pre .3 .all-answers; none-found = s .pre .3 .none-found },
+      λ w. inr (stepped-past _ _ (s .args .at .number) _ _ _ _ _ _ _ _ (c .before .before .before .before .before .before .before .before .before .middle-places .ensures .1 (middles-asked _ _ _ _ _ _ _ w _ _ (c .before .before .before .before .before .before .before .before .before .before .before .before .before .before .before .before .before .wide .ensures .0) (c .before .before .before .before .before .before .before .before .before .before .before .before .before .before .before .wide2 .ensures .0) (omega (arith, c .before .before .before .before .before .before .before .before .before .before .before .before .before .before .if1 .taken, end-after _ _ _ _ _ _ _ w _ _ (c .before .before .before .before .before .before .before .before .before .before .before .before .before .before .before .before .before .wide .ensures .0) (c .before .before .before .before .before .before .before .before .before .before .before .before .before .before .before .wide2 .ensures .0))))) (c .if2 .taken)),
+      λ l. absurd (omega (arith, c .if2 .taken)),
+    )
+
+-- the rows for the body atoms behind the first are there
+past : (c : tie.Joined1) → (c .if1 .seen ≡ replicate setWords 0) × (length (c .if1 .answers) ≡ 4096)
+    × ((w : HeadAsked (c .before .before .before .before .before .before .before .before .before .before .before .before .before .before .args .words .now) (c .before .before .before .before .before .before .before .before .before .before .before .before .before .before .args .dir .now) (c .before .before .before .before .before .before .before .before .before .before .before .before .before .before .args .table .now) (c .before .before .before .before .before .before .before .before .before .before .before .before .before .before .args .heads .now) (c .before .before .before .before .before .before .before .before .before .before .before .before .before .before .args .at .since) (c .before .before .before .before .before .before .before .before .before .before .before .before .before .before .args .at .rows) (c .before .before .before .before .before .before .before .before .before .before .before .before .before .before .args .k)) → Past (c .before .before .before .before .before .before .before .before .before .before .before .before .before .before .args .words .now) (c .before .before .before .before .before .before .before .before .before .before .before .before .before .before .args .dir .now) (c .before .before .before .before .before .before .before .before .before .before .before .before .before .before .args .heads .now) (c .before .before .before .before .before .before .before .before .before .before .before .before .before .before .args .table .now) (c .before .before .before .before .before .before .before .before .before .before .before .before .before .before .args .buckets .now) (c .before .before .before .before .before .before .before .before .before .before .before .before .before .before .args .at .since) (c .before .before .before .before .before .before .before .before .before .before .before .before .before .before .args .at .rows) (c .before .before .before .before .before .before .before .before .before .before .before .before .before .before .args .at .number) (c .before .before .before .before .before .before .before .before .before .before .before .before .before .before .args .at .room) (c .before .before .before .before .before .before .before .before .before .before .before .before .before .before .args .n) (c .before .before .before .before .before .before .before .before .before .before .before .before .before .before .pre .2) (c .before .before .before .before .before .before .before .before .before .before .before .before .before .before .args .k) w (c .if1 .rows) (c .if1 .table) (c .if1 .buckets))
+past c =
+    let s = c .before .before .before .before .before .before .before .before .before .before .before .before .before .before in
+    ⊎-elim
+    (λ z. rw (z .15, z .16, z .17, z .18, z .19) (
+      z .5 .ensures .0,
+      z .5 .kept .1 .1 .1 .1 .1 .1 .0 ∙ s .pre .3 .all-answers,
+      λ w. stepped-within _ _ _ _ _ _ _ _ _ _ _ (z .5 .ensures .1 (middles-asked _ _ _ _ _ _ _ w _ _ (c .before .before .before .wide .ensures .0) (c .before .wide2 .ensures .0) (omega (arith, z .0 .taken, end-after _ _ _ _ _ _ _ w _ _ (c .before .before .before .wide .ensures .0) (c .before .wide2 .ensures .0))))) (z .14 .left),
+    ))
+    (λ z. rw (z .1, z .2, z .3, z .4, z .5) (
+      s .pre .3 .none-seen,
+      s .pre .3 .all-answers,
+      λ w. no-places _ _ _ _ _ _ _ _ _ _ (s .pre .2) _ w (omega (arith, z .0 .left, end-after _ _ _ _ _ _ _ w _ _ (c .before .before .before .wide .ensures .0) (c .before .wide2 .ensures .0))) (s .pre .1),
+    ))
+    (c .if1 .came)
 
 end-clause-requires : tie.Need-end-clause-requires
-end-clause-requires c κs = let s = c .before .before .before .before .before .before .before .before .before .before .before .before .before .before .before .before .before .before .before .before .before .before .before .before .before .before .before .before .before in
+end-clause-requires c κs =
+    let s = c .before .before .before .before .before .before .before .before .before .before .before .before .before .before .before .before .before .before .before .before in
     let w = s .pre .0 in
-    let g = (stepped-within _ _ (s .args .at .number) _ _ _ _ _ _ _ _ (c .before .before .before .before .before .before .before .before .before .before .before .before .before .before .before .places .ensures .1 (w)) (c .before .before .before .before .before .before .if1 .left)) in (
+    let (none-seen, size, grown) = past (c .before .before .before .before .before .before) in
+    let g = grown w in (
       stands-on _ _ _ _ _ _ _ _ _ _ (s .pre .2) _ w _ _ _ _ g,
       g .writable,
       omega (arith, s .pre .2, g .more),
-      record { none-seen = c .before .before .before .before .before .before .before .before .before .before .before .before .before .before .before .places .ensures .0; all-answers = c .before .before .before .before .before .before .before .before .before .before .before .before .before .before .before .places .kept .1 .1 .1 .1 .1 .1 .0 ∙ s .pre .3 .all-answers; none-found = s .pre .3 .none-found },
+      record { none-seen = none-seen; all-answers = size; none-found = s .pre .3 .none-found },
       keeps-all _ _ _ (w .situation .setting)
-          (step-keeps _ _ (s .args .at .number) _ _ _ _ _ _ _ _ _ _ (s .pre .2) (c .before .before .before .before .before .before .before .before .before .before .before .before .before .before .before .places .ensures .1 w) (c .before .before .before .before .before .before .if1 .left) (s .pre .4 (w .situation .p) (w .situation .setting))),
+          (step-keeps _ _ (s .args .at .number) _ _ _ _ _ _ _ _ _ _ (s .pre .2) (inl g) (g .writable .within) (s .pre .4 (w .situation .p) (w .situation .setting))),
     )
 
 same-length-5 : tie.Need-same-length-5
-same-length-5 c = search needs
+same-length-5 c = c .before .before .before .before .before .before .before .before .before .before .before .before .end-clause .kept .1 .1 .0 ∙ past (c .before .before .before .before .before .before .before .before .before .before .before .before .before .before .before .before .before .before .before) .2 (c .before .before .before .before .before .before .before .before .before .before .before .before .before .before .before .before .before .before .before .before .before .before .before .before .before .before .before .before .before .before .before .before .before .pre .0) .same-length
 
 same-length-6 : tie.Need-same-length-6
-same-length-6 c = search needs
+same-length-6 c = c .before .before .before .before .before .before .before .before .before .before .before .before .end-clause .kept .1 .1 .1 .0 ∙ past (c .before .before .before .before .before .before .before .before .before .before .before .before .before .before .before .before .before .before .before) .2 (c .before .before .before .before .before .before .before .before .before .before .before .before .before .before .before .before .before .before .before .before .before .before .before .before .before .before .before .before .before .before .before .before .before .pre .0) .writable .store .all-buckets ∙ sym (c .before .before .before .before .before .before .before .before .before .before .before .before .before .before .before .before .before .before .before .before .before .before .before .before .before .before .before .before .before .before .before .before .before .pre .1 .store .all-buckets)
 
 same-length-7 : tie.Need-same-length-7
-same-length-7 c = search needs
+same-length-7 c = c .before .before .before .before .before .before .before .before .before .before .before .before .end-clause .kept .1 .1 .1 .1 .1 .0 ∙ ap length (past (c .before .before .before .before .before .before .before .before .before .before .before .before .before .before .before .before .before .before .before) .0) ∙ sym (ap length (c .before .before .before .before .before .before .before .before .before .before .before .before .before .before .before .before .before .before .before .before .before .before .before .before .before .before .before .before .before .before .before .before .before .pre .3 .none-seen))
 
 same-length-8 : tie.Need-same-length-8
-same-length-8 c = search needs
+same-length-8 c = c .before .before .before .before .before .before .before .before .before .before .before .before .end-clause .kept .1 .1 .1 .1 .1 .1 .0 ∙ past (c .before .before .before .before .before .before .before .before .before .before .before .before .before .before .before .before .before .before .before) .1 ∙ sym (c .before .before .before .before .before .before .before .before .before .before .before .before .before .before .before .before .before .before .before .before .before .before .before .before .before .before .before .before .before .before .before .before .before .pre .3 .all-answers)
 
 same-length-9 : tie.Need-same-length-9
 same-length-9 c = search needs
@@ -63,17 +117,28 @@ same-length-10 : tie.Need-same-length-10
 same-length-10 c = search needs
 
 returns-2 : tie.Need-returns-2
-returns-2 c = let s = c .before .before .before .before .before .before .before .before .before .before .before .before .before .before .before .before .before .before .before .before .before .before .before .before .before .before .before .before .before .before .before .before .before .before .before .before .before .before .before .before .before .before in (
-  c .before .before .before .before .before .before .before .before .before .before .before .before .end-clause .ensures .0,
-  λ w. clause-ends _ _ _ _ _ _ _ _ _ _ (s .pre .2) _ w _ _ _ _ (stepped-within _ _ (s .args .at .number) _ _ _ _ _ _ _ _ (c .before .before .before .before .before .before .before .before .before .before .before .before .before .before .before .before .before .before .before .before .before .before .before .before .before .before .before .before .places .ensures .1 (w)) (c .before .before .before .before .before .before .before .before .before .before .before .before .before .before .before .before .before .before .before .if1 .left)) _ _ _ (λ key h. h) (c .before .before .before .before .before .before .before .before .before .before .before .before .end-clause .ensures .1),
-  c .before .before .before .before .before .before .before .before .before .before .before .before .end-clause .ensures .2,
-)
+returns-2 c =
+    let s = c .before .before .before .before .before .before .before .before .before .before .before .before .before .before .before .before .before .before .before .before .before .before .before .before .before .before .before .before .before .before .before .before .before in (
+      c .before .before .before .before .before .before .before .before .before .before .before .before .end-clause .ensures .0,
+      λ w. let g = past (c .before .before .before .before .before .before .before .before .before .before .before .before .before .before .before .before .before .before .before) .2 w in clause-ends _ _ _ _ _ _ _ _ _ _ (s .pre .2) _ w _ _ _ g _ _ _ (c .before .before .before .before .before .before .before .before .before .before .before .before .end-clause .ensures .1 (stands-on _ _ _ _ _ _ _ _ _ _ (s .pre .2) _ w _ _ _ _ g)),
+      c .before .before .before .before .before .before .before .before .before .before .before .before .end-clause .ensures .2,
+    )
 
 pub clause-spec : {M : Type 1} → statement M
 clause-spec =
     tie.close
     (tie.spec
-    places-requires
+    add-wide
+    mul-wide
+    shared-slice-read-wide
+    wide-requires
+    add-wide-2
+    add-wide-3
+    mul-wide-2
+    shared-slice-read-wide-2
+    wide-requires-2
+    sub-middle-places
+    middle-places-requires
     same-length
     same-length-2
     same-length-3

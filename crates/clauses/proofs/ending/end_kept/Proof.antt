@@ -1,11 +1,23 @@
--- `end_kept` meets its contract: known marks to the new call rows, the others to all, and then all are kept. Assumes nothing.
+-- `end_kept` meets its contract: the marks that are kept and those of a row that is not known are all that result. Assumes nothing.
+use Prim.Native.Nat.{ℕ, _+_, _-_, _*_, _%_, _^_, _≤_}
 use native.Mathlib.Omega.{arith}
+use native.Mathlib.Nat.{le-refl}
 use borrow.Author.Needs.{needs}
-use mathlib.Core.Logic.{inr}
-use Rattle.steps.proofs.Stepping.{stepped-within, stepped-past}
-use Rattle.ends.proofs.ClauseRows.{clause-few}
-use Rattle.ends.proofs.KeptMarks.{step-keeps, keeps-all, keeping-gained}
-use Rattle.ends.proofs.Endings.{kept-asked, kept-ends}
+use mathlib.Core.Path.{_≡_, refl, ap, _∙_}
+use mathlib.Core.Logic.{⊎-elim}
+use lib.ListN.{length, getD, take, drop, replicate, length-replicate}
+use Rattle.directory.specs.Layout.{clauseVars}
+use Rattle.rows.specs.MaskSet.{setWords}
+use Rattle.rows.proofs.ClearedMarks.{marks-shifted, cleared-empty}
+use Rattle.steps.specs.Situation.{HeadAsked}
+use Rattle.steps.specs.Heads.{HeadMark, Marked, FoundOn}
+use Rattle.steps.proofs.Stepping.{stepped-must}
+use Rattle.ends.specs.AtHead.{AtHead}
+use Rattle.ends.specs.Keeping.{keptSet, knownOf}
+use Rattle.ends.proofs.ClauseRows.{clause-few, vars-few, asked-since}
+use Rattle.ends.proofs.HeadMarks.{marked-empty, mark-below, found-holds, found-all, found-none}
+use Rattle.ends.proofs.KeptMarks.{few-masks, kept-on, kept-holds, gained-marked, keeps-all, step-keeps, keeping-gained}
+use Rattle.ends.proofs.Endings.{kept-ends}
 use Rattle.clauses.proofs.ending.end_kept.Statement.{statement}
 use Rattle.clauses.proofs.ending.end_kept.Tie as tie
 
@@ -15,14 +27,98 @@ add-wide c = let s = c .before .before .before .before .before .before .before .
 mul-wide : tie.Need-mul-wide
 mul-wide c = let s = c .before .before .before .before .before .before .before .before .before in let w = s .pre .0 in let few = clause-few _ _ _ _ _ _ _ w in omega (arith, few .0, few .1, s .pre .4 (w .situation .p) (w .situation .setting) .size)
 
-slice-read-wide : tie.Need-slice-read-wide
-slice-read-wide c = let s = c .before .before .before .before .before .before .before .before .before .before in let w = s .pre .0 in let few = clause-few _ _ _ _ _ _ _ w in omega (arith, few .0, few .1, s .pre .4 (w .situation .p) (w .situation .setting) .size)
+shared-slice-read-wide : tie.Need-shared-slice-read-wide
+shared-slice-read-wide c = let s = c .before .before .before .before .before .before .before .before .before .before in let w = s .pre .0 in let few = clause-few _ _ _ _ _ _ _ w in omega (arith, few .0, few .1, s .pre .4 (w .situation .p) (w .situation .setting) .size)
 
 wide-requires : tie.Need-wide-requires
 wide-requires c κs = search needs
 
-end-known-requires : tie.Need-end-known-requires
-end-known-requires c κs = let s = c .before .before .before .before .before .before .before .before .before .before .before .before .before .before .before .before .before in (s .pre .0, s .pre .1, s .pre .2, s .pre .3, s .pre .4, s .pre .5)
+shl-all : tie.Need-shl-all
+shl-all c = omega (arith, c .wide .ensures .0, vars-few _ _ _ _ _ _ _ (c .before .before .before .before .before .before .before .before .before .before .before .pre .0))
+
+add-wide-2 : tie.Need-add-wide-2
+add-wide-2 c = let s = c .before .before .before .before .before .before .before .before .before .before .before in let w = s .pre .0 in let few = clause-few _ _ _ _ _ _ _ w in omega (arith, few .0, few .1, s .pre .4 (w .situation .p) (w .situation .setting) .size)
+
+mul-wide-2 : tie.Need-mul-wide-2
+mul-wide-2 c = let s = c .before .before .before .before .before .before .before .before .before .before .before in let w = s .pre .0 in let few = clause-few _ _ _ _ _ _ _ w in omega (arith, few .0, few .1, s .pre .4 (w .situation .p) (w .situation .setting) .size)
+
+slice-read-wide : tie.Need-slice-read-wide
+slice-read-wide c = let s = c .before .before .before .before .before .before .before .before .before .before .before .before in let w = s .pre .0 in let few = clause-few _ _ _ _ _ _ _ w in omega (arith, few .0, few .1, s .pre .4 (w .situation .p) (w .situation .setting) .size)
+
+wide-requires-2 : tie.Need-wide-requires-2
+wide-requires-2 c κs = search needs
+
+-- what is known, cut to the rows before the last round
+early : (c : tie.Joined1) → (c .if1 .known ≤ c .before .before .before .before .before .before .before .before .before .before .before .before .before .before .before .args .at .since) × (c .if1 .known ≤ knownOf (c .before .before .before .before .before .before .before .before .before .before .before .before .before .before .before .args .kept .now) (c .before .before .before .before .before .before .before .before .before .before .before .before .before .before .before .args .k))
+early c =
+    ⊎-elim
+    (λ z. rw (z .1) (omega arith, omega (arith, z .0 .taken, c .before .before .wide2 .ensures .0)))
+    (λ z. rw (z .1) (omega (arith, z .0 .left), omega (arith, c .before .before .wide2 .ensures .0)))
+    (c .if1 .came)
+
+head-marks-requires : tie.Need-head-marks-requires
+head-marks-requires c κs = let s = c .before .before .before .before .before .before .before .before .before .before .before .before .before .before .before .before .before .before .before in (asked-since _ _ _ _ _ _ _ (s .pre .0) _ (omega (arith, early (c .before .before .before .before) .0, s .pre .0 .situation .chains .new)), ap length (s .pre .3 .none-found) ∙ length-replicate {A = ℕ} setWords 0, s .pre .3 .none-seen, s .pre .3 .all-answers)
+
+-- the marks of a row that is not known are in the set
+new-marks : (c : tie.Joined2) (w : HeadAsked (c .before .before .before .before .before .before .before .before .before .before .before .before .before .before .before .before .before .before .before .before .before .before .before .before .before .before .before .args .words .now) (c .before .before .before .before .before .before .before .before .before .before .before .before .before .before .before .before .before .before .before .before .before .before .before .before .before .before .before .args .dir .now) (c .before .before .before .before .before .before .before .before .before .before .before .before .before .before .before .before .before .before .before .before .before .before .before .before .before .before .before .args .table .now) (c .before .before .before .before .before .before .before .before .before .before .before .before .before .before .before .before .before .before .before .before .before .before .before .before .before .before .before .args .heads .now) (c .before .before .before .before .before .before .before .before .before .before .before .before .before .before .before .before .before .before .before .before .before .before .before .before .before .before .before .args .at .since) (c .before .before .before .before .before .before .before .before .before .before .before .before .before .before .before .before .before .before .before .before .before .before .before .before .before .before .before .args .at .rows) (c .before .before .before .before .before .before .before .before .before .before .before .before .before .before .before .before .before .before .before .before .before .before .before .before .before .before .before .args .k))
+    → Marked (HeadMark (w .situation .p) (c .before .before .before .before .before .before .before .before .before .before .before .before .before .before .before .before .before .before .before .before .before .before .before .before .before .before .before .args .table .now) (c .before .before .before .before .before .before .before .before .before .before .before .before .if1 .known) (c .before .before .before .before .before .before .before .before .before .before .before .before .before .before .before .before .before .before .before .before .before .before .before .before .before .before .before .args .at .rows) (c .before .before .before .before .before .before .before .before .before .before .before .before .before .before .before .before .before .before .before .before .before .before .before .before .before .before .before .args .k) (length (w .clause .c .body))) (replicate setWords 0) (c .before .before .before .before .before .before .before .head-marks .last .1 .1 .1 .1 .1 .1 .1 .1 .1 .0)
+new-marks c w = marked-empty _ _ _ (c .before .before .before .before .before .before .before .before .before .before .before .before .before .before .before .before .before .before .before .before .before .before .before .before .before .before .before .pre .3 .none-found) (c .before .before .before .before .before .before .before .head-marks .ensures .1 (asked-since _ _ _ _ _ _ _ w _ (omega (arith, early (c .before .before .before .before .before .before .before .before .before .before .before .before) .0, w .situation .chains .new))) .0)
+
+-- a mask of the head's variables
+all-masks : (c : tie.Joined2) → 1 * 2 ^ c .before .before .before .before .before .before .before .before .before .before .before .before .before .before .before .before .wide .result % 18446744073709551616 ≡ 2 ^ getD (c .before .before .before .before .before .before .before .before .before .before .before .before .before .before .before .before .before .before .before .before .before .before .before .before .before .before .before .args .dir .now) (clauseVars + c .before .before .before .before .before .before .before .before .before .before .before .before .before .before .before .before .before .before .before .before .before .before .before .before .before .before .before .args .k) 0
+all-masks c = marks-shifted (c .before .before .before .before .before .before .before .before .before .before .before .before .before .before .before .before .wide .result) (omega (arith, c .before .before .before .before .before .before .before .before .before .before .before .before .before .before .before .before .wide .ensures .0, vars-few _ _ _ _ _ _ _ (c .before .before .before .before .before .before .before .before .before .before .before .before .before .before .before .before .before .before .before .before .before .before .before .before .before .before .before .pre .0))) .0 ∙ ap (λ (x : ℕ). 2 ^ x) (c .before .before .before .before .before .before .before .before .before .before .before .before .before .before .before .before .wide .ensures .0)
+
+-- the set has marks that result
+collected : (c : tie.Joined2) (w : HeadAsked (c .before .before .before .before .before .before .before .before .before .before .before .before .before .before .before .before .before .before .before .before .before .before .before .before .before .before .before .args .words .now) (c .before .before .before .before .before .before .before .before .before .before .before .before .before .before .before .before .before .before .before .before .before .before .before .before .before .before .before .args .dir .now) (c .before .before .before .before .before .before .before .before .before .before .before .before .before .before .before .before .before .before .before .before .before .before .before .before .before .before .before .args .table .now) (c .before .before .before .before .before .before .before .before .before .before .before .before .before .before .before .before .before .before .before .before .before .before .before .before .before .before .before .args .heads .now) (c .before .before .before .before .before .before .before .before .before .before .before .before .before .before .before .before .before .before .before .before .before .before .before .before .before .before .before .args .at .since) (c .before .before .before .before .before .before .before .before .before .before .before .before .before .before .before .before .before .before .before .before .before .before .before .before .before .before .before .args .at .rows) (c .before .before .before .before .before .before .before .before .before .before .before .before .before .before .before .before .before .before .before .before .before .before .before .before .before .before .before .args .k)) → FoundOn (w .situation .p) (c .before .before .before .before .before .before .before .before .before .before .before .before .before .before .before .before .before .before .before .before .before .before .before .before .before .before .before .args .table .now) (c .before .before .before .before .before .before .before .before .before .before .before .before .before .before .before .before .before .before .before .before .before .before .before .before .before .before .before .args .at .rows) (c .before .before .before .before .before .before .before .before .before .before .before .before .before .before .before .before .before .before .before .before .before .before .before .before .before .before .before .args .k) (length (w .clause .c .body)) (c .before .before .before .before .before .before .before .head-marks .last .1 .1 .1 .1 .1 .1 .1 .1 .1 .0) (c .if2 .marks)
+collected c w =
+    ⊎-elim
+    (λ z. rw (z .1) (found-all _ _ _ _ _ _ _ w _ _ (le-refl _) _ (new-marks c w) _ (all-masks c)))
+    (λ z. rw (z .1) (found-none _ _ _ _ _ _ _ w _ _ (le-refl _) _ (new-marks c w) _ refl
+    (λ q h. rw (z .0 .left) at (c .before .before .before .before .before .before .before .head-marks .ensures .1 (asked-since _ _ _ _ _ _ _ w _ (omega (arith, early (c .before .before .before .before .before .before .before .before .before .before .before .before) .0, w .situation .chains .new))) .1 q h))))
+    (c .if2 .came)
+
+abbrev asked : (c : tie.Joined2) (w : HeadAsked (c .before .before .before .before .before .before .before .before .before .before .before .before .before .before .before .before .before .before .before .before .before .before .before .before .before .before .before .args .words .now) (c .before .before .before .before .before .before .before .before .before .before .before .before .before .before .before .before .before .before .before .before .before .before .before .before .before .before .before .args .dir .now) (c .before .before .before .before .before .before .before .before .before .before .before .before .before .before .before .before .before .before .before .before .before .before .before .before .before .before .before .args .table .now) (c .before .before .before .before .before .before .before .before .before .before .before .before .before .before .before .before .before .before .before .before .before .before .before .before .before .before .before .args .heads .now) (c .before .before .before .before .before .before .before .before .before .before .before .before .before .before .before .before .before .before .before .before .before .before .before .before .before .before .before .args .at .since) (c .before .before .before .before .before .before .before .before .before .before .before .before .before .before .before .before .before .before .before .before .before .before .before .before .before .before .before .args .at .rows) (c .before .before .before .before .before .before .before .before .before .before .before .before .before .before .before .before .before .before .before .before .before .before .before .before .before .before .before .args .k))
+    → AtHead (c .before .before .before .before .before .before .before .before .before .before .before .before .before .before .before .before .before .before .before .before .before .before .before .before .before .before .before .args .words .now) (c .before .before .before .before .before .before .before .before .before .before .before .before .before .before .before .before .before .before .before .before .before .before .before .before .before .before .before .args .dir .now) (c .before .before .before .before .before .before .before .before .before .before .before .before .before .before .before .before .before .before .before .before .before .before .before .before .before .before .before .args .table .now) (c .before .before .before .before .before .before .before .before .before .before .before .before .before .before .before .before .before .before .before .before .before .before .before .before .before .before .before .args .heads .now) (take (32 * c .before .before .before .before .before .before .before .before .before .before .before .before .before .before .before .before .before .before .before .before .before .before .before .before .before .before .before .args .k + 32 - 32 * c .before .before .before .before .before .before .before .before .before .before .before .before .before .before .before .before .before .before .before .before .before .before .before .before .before .before .before .args .k) (drop (32 * c .before .before .before .before .before .before .before .before .before .before .before .before .before .before .before .before .before .before .before .before .before .before .before .before .before .before .before .args .k) (c .before .before .before .before .before .before .before .before .before .before .before .before .before .before .before .before .before .before .before .before .before .before .before .before .before .before .before .args .kept .now))) (c .before .before .before .before .before .before .before .head-marks .last .1 .1 .1 .1 .1 .1 .1 .1 .1 .0) (c .before .before .before .before .before .before .before .before .before .before .before .before .before .before .before .before .before .before .before .before .before .before .before .before .before .before .before .args .at .since) (c .before .before .before .before .before .before .before .before .before .before .before .before .before .before .before .before .before .before .before .before .before .before .before .before .before .before .before .args .at .rows) (c .before .before .before .before .before .before .before .before .before .before .before .before .before .before .before .before .before .before .before .before .before .before .before .before .before .before .before .args .k) (1 * 2 ^ c .before .before .before .before .before .before .before .before .before .before .before .before .before .before .before .before .wide .result % 18446744073709551616) (c .if2 .marks)
+asked c w = record { head = w; known-on = kept-on _ _ _ _ _ _ _ w _ (c .before .before .before .before .before .before .before .before .before .before .before .before .before .before .before .before .before .before .before .before .before .before .before .before .before .before .before .pre .4 (w .situation .p) (w .situation .setting)) (c .before .before .before .before .before .before .before .before .before .before .before .before .before .before .before .before .before .before .before .before .before .before .before .before .before .before .before .pre .5) _ _ refl refl _ (all-masks c); found-on = collected c w }
+
+mul-first : tie.Need-mul-first
+mul-first c = let s = c .before .before .before .before .before .before .before .before .before .before .before .before .before .before .before .before .before .before .before .before .before .before .before .before .before .before .before in let w = s .pre .0 in let few = clause-few _ _ _ _ _ _ _ w in omega (arith, few .0, few .1, s .pre .4 (w .situation .p) (w .situation .setting) .size)
+
+add-end : tie.Need-add-end
+add-end c = let s = c .before .before .before .before .before .before .before .before .before .before .before .before .before .before .before .before .before .before .before .before .before .before .before .before .before .before .before in let w = s .pre .0 in let few = clause-few _ _ _ _ _ _ _ w in omega (arith, few .0, few .1, s .pre .4 (w .situation .p) (w .situation .setting) .size)
+
+mul-at-head : tie.Need-mul-at-head
+mul-at-head c = let s = c .before .before .before .before .before .before .before .before .before .before .before .before .before .before .before .before .before .before .before .before .before .before .before .before .before .before .before .before .before .before .before in let w = s .pre .0 in let few = clause-few _ _ _ _ _ _ _ w in omega (arith, few .0, few .1, s .pre .4 (w .situation .p) (w .situation .setting) .size)
+
+sub-at-head : tie.Need-sub-at-head
+sub-at-head c = search needs
+
+part-at-head-start : tie.Need-part-at-head-start
+part-at-head-start c = search needs
+
+part-at-head-end : tie.Need-part-at-head-end
+part-at-head-end c = let s = c .before .before .before .before .before .before .before .before .before .before .before .before .before .before .before .before .before .before .before .before .before .before .before .before .before .before .before .before .before .before .before .before in let w = s .pre .0 in let few = clause-few _ _ _ _ _ _ _ w in omega (arith, few .0, few .1, s .pre .4 (w .situation .p) (w .situation .setting) .size)
+
+at-head-requires : tie.Need-at-head-requires
+at-head-requires c κs = let s = c .before .before .before .before .before .before .before .before .before .before .before .before .before .before .before .before .before .before .before .before .before .before .before .before .before .before .before .before .before .before .before .before .before .before in (asked (c .before .before .before .before .before .before .before) (s .pre .0), s .pre .1, s .pre .2, c .before .before .before .before .before .before .before .before .before .before .before .before .before .before .head-marks .ensures .0, c .before .before .before .before .before .before .before .before .before .before .before .before .before .before .head-marks .kept .1 .1 .1 .1 .1 .0 ∙ s .pre .3 .all-answers)
+
+keep-requires : tie.Need-keep-requires
+keep-requires c κs = let s = c .before .before .before .before .before .before .before .before .before .before .before .before .before .before .before .before .before .before .before .before .before .before .before .before .before .before .before .before .before .before .before .before .before .before .before .before .before .before .before .before .before .before .before .before .before in let w = s .pre .0 in (new-marks (c .before .before .before .before .before .before .before .before .before .before .before .before .before .before .before .before .before .before) w .size, clause-few _ _ _ _ _ _ _ w .0, s .pre .4 (w .situation .p) (w .situation .setting) .size)
+
+clear-requires : tie.Need-clear-requires
+clear-requires c κs = omega (arith, new-marks (c .before .before .before .before .before .before .before .before .before .before .before .before .before .before .before .before .before .before .before .before .before .before) (c .before .before .before .before .before .before .before .before .before .before .before .before .before .before .before .before .before .before .before .before .before .before .before .before .before .before .before .before .before .before .before .before .before .before .before .before .before .before .before .before .before .before .before .before .before .before .before .before .before .pre .0) .size)
+
+narrow-requires : tie.Need-narrow-requires
+narrow-requires c κs = omega (arith, c .before .before .before .before .before .before .before .before .before .before .before .before .before .before .before .before .before .before .before .before .before .before .before .before .before .before .before .before .before .before .before .before .before .before .before .before .before .before .before .before .before .before .before .before .before .before .before .before .before .before .before .before .pre .0 .situation .chains .most)
+
+add-kept : tie.Need-add-kept
+add-kept c = let s = c .before .before .before .before .before .before .before .before .before .before .before .before .before .before .before .before .before .before .before .before .before .before .before .before .before .before .before .before .before .before .before .before .before .before .before .before .before .before .before .before .before .before .before .before .before .before .before .before .before .before .before .before .before in let w = s .pre .0 in let few = clause-few _ _ _ _ _ _ _ w in omega (arith, few .0, few .1, s .pre .4 (w .situation .p) (w .situation .setting) .size)
+
+mul-kept : tie.Need-mul-kept
+mul-kept c = let s = c .before .before .before .before .before .before .before .before .before .before .before .before .before .before .before .before .before .before .before .before .before .before .before .before .before .before .before .before .before .before .before .before .before .before .before .before .before .before .before .before .before .before .before .before .before .before .before .before .before .before .before .before .before in let w = s .pre .0 in let few = clause-few _ _ _ _ _ _ _ w in omega (arith, few .0, few .1, s .pre .4 (w .situation .p) (w .situation .setting) .size)
+
+slice-write-kept : tie.Need-slice-write-kept
+slice-write-kept c = let s = c .before .before .before .before .before .before .before .before .before .before .before .before .before .before .before .before .before .before .before .before .before .before .before .before .before .before .before .before .before .before .before .before .before .before .before .before .before .before .before .before .before .before .before .before .before .before .before .before .before .before .before .before .before in let w = s .pre .0 in let few = clause-few _ _ _ _ _ _ _ w in omega (arith, few .0, few .1, s .pre .4 (w .situation .p) (w .situation .setting) .size)
 
 same-length : tie.Need-same-length
 same-length c = search needs
@@ -43,69 +139,26 @@ same-length-6 : tie.Need-same-length-6
 same-length-6 c = search needs
 
 returns : tie.Need-returns
-returns c = let s = c .before .before .before .before .before .before .before .before .before .before .before .before .before .before .before .before .before .before .before .before .before .before .before .before .before .before .before .before .before in (
-  c .before .before .before .before .before .before .before .before .before .before .before .end-known .ensures .0,
-  λ w. inr (stepped-past _ _ (s .args .at .number) _ _ _ _ _ _ _ _ (c .before .before .before .before .before .before .before .before .before .before .before .end-known .ensures .1 w) (c .if1 .taken)),
-  λ l. absurd (omega (arith, c .if1 .taken)),
-)
-
-end-new-requires : tie.Need-end-new-requires
-end-new-requires c κs = let s = c .before .before .before .before .before .before .before .before .before .before .before .before .before .before .before .before .before .before .before .before .before .before .before .before .before .before .before .before .before .before .before .before .before .before .before in let w = s .pre .0 in
-    let g = stepped-within _ _ (s .args .at .number) _ _ _ _ _ _ _ _ (c .before .before .before .before .before .before .before .before .before .before .before .before .before .before .before .before .before .end-known .ensures .1 w) (c .before .before .before .before .before .before .if1 .left) in (
-      kept-asked _ _ _ _ _ _ _ _ _ _ (s .pre .2) _ w _ (s .pre .6) _ _ _ g,
-      g .writable,
-      omega (arith, s .pre .2, g .more),
-      c .before .before .before .before .before .before .before .before .before .before .before .before .before .before .before .before .before .end-known .ensures .0,
-      omega (arith, c .before .before .before .before .before .before .before .before .before .before .before .before .before .before .before .before .before .before .before .before .before .before .before .before .wide .ensures .0, s .pre .6, w .situation .chains .new),
-      s .pre .4 (w .situation .p) (w .situation .setting) .size,
+returns c =
+    let s = c .before .before .before .before .before .before .before .before .before .before .before .before .before .before .before .before .before .before .before .before .before .before .before .before .before .before .before .before .before .before .before .before .before .before .before .before .before .before .before .before .before .before .before .before .before .before .before .before .before .before .before .before .before in
+    let kept = s .pre .4 (s .pre .0 .situation .p) (s .pre .0 .situation .setting) in (
+      record {
+        none-seen = c .before .before .before .before .before .before .before .before .before .before .before .before .before .before .before .before .before .before .at-head .ensures .0;
+        all-answers = c .before .before .before .before .before .before .before .before .before .before .before .before .before .before .before .before .before .before .at-head .kept .1 .1 .1 .1 .1 .1 .0 ∙ c .before .before .before .before .before .before .before .before .before .before .before .before .before .before .before .before .before .before .before .before .before .before .before .before .before .before .before .before .before .before .before .before .before .head-marks .kept .1 .1 .1 .1 .1 .0 ∙ s .pre .3 .all-answers;
+        none-found = c .before .before .before .clear .ensures ∙ cleared-empty (c .before .before .before .before .before .before .before .before .before .before .before .before .before .before .before .before .before .before .before .before .before .before .before .before .before .before .before .before .before .before .before .before .before .head-marks .last .1 .1 .1 .1 .1 .1 .1 .1 .1 .0) keptSet (new-marks (c .before .before .before .before .before .before .before .before .before .before .before .before .before .before .before .before .before .before .before .before .before .before .before .before .before .before) (s .pre .0) .size) (omega arith) (λ i. c .before .before .before .before .before .before .before .before .before .before .before .before .before .before .before .before .before .before .before .before .before .before .before .before .before .before .before .slice-known10 .given i .fits)
+            (λ q h. omega (arith, few-masks _ _ _ _ _ _ _ (s .pre .0) _ kept (s .pre .5) _ _ refl refl, mark-below _ _ _ _ _ _ _ (s .pre .0) _ _ q (collected (c .before .before .before .before .before .before .before .before .before .before .before .before .before .before .before .before .before .before .before .before .before .before .before .before .before .before) (s .pre .0) .result q h)));
+      },
+      λ w. stepped-must _ _ (s .args .at .number) _ _ _ _ _ _ _ _ _
+          (kept-ends _ _ _ _ _ _ _ w _ _ _ (early (c .before .before .before .before .before .before .before .before .before .before .before .before .before .before .before .before .before .before .before .before .before .before .before .before .before .before .before .before .before .before .before .before .before .before .before .before .before .before) .0)
+          (λ q l. kept-holds _ _ _ _ _ _ _ w _ (s .pre .4 (w .situation .p) (w .situation .setting)) (s .pre .5) _ _ refl refl _ (early (c .before .before .before .before .before .before .before .before .before .before .before .before .before .before .before .before .before .before .before .before .before .before .before .before .before .before .before .before .before .before .before .before .before .before .before .before .before .before) .1) q)
+          (found-holds _ _ _ _ _ _ _ w _ _ (le-refl _) _ (new-marks (c .before .before .before .before .before .before .before .before .before .before .before .before .before .before .before .before .before .before .before .before .before .before .before .before .before .before) w)))
+          (c .before .before .before .before .before .before .before .before .before .before .before .before .before .before .before .before .before .before .at-head .ensures .1 (asked (c .before .before .before .before .before .before .before .before .before .before .before .before .before .before .before .before .before .before .before .before .before .before .before .before .before .before) w)),
+      λ l.
+          let w = s .pre .0 in
+          keeps-all _ _ _ (w .situation .setting)
+          (step-keeps _ _ (s .args .at .number) _ _ _ _ _ _ _ _ _ _ (s .pre .2) (c .before .before .before .before .before .before .before .before .before .before .before .before .before .before .before .before .before .before .at-head .ensures .1 (asked (c .before .before .before .before .before .before .before .before .before .before .before .before .before .before .before .before .before .before .before .before .before .before .before .before .before .before) w)) l
+          (rw (c .narrow .ensures) (keeping-gained (w .situation .setting) _ _ _ (w .clause .nth-clause) _ _ kept _ (early (c .before .before .before .before .before .before .before .before .before .before .before .before .before .before .before .before .before .before .before .before .before .before .before .before .before .before .before .before .before .before .before .before .before .before .before .before .before .before) .1) (gained-marked _ _ _ _ (new-marks (c .before .before .before .before .before .before .before .before .before .before .before .before .before .before .before .before .before .before .before .before .before .before .before .before .before .before) w) (c .before .before .before .before .before .before .before .keep .ensures))))),
     )
-
-narrow-requires : tie.Need-narrow-requires
-narrow-requires c κs = omega (arith, c .before .before .before .before .before .before .before .before .before .before .before .before .before .before .before .before .before .before .before .before .before .before .before .before .before .before .before .before .before .before .before .before .before .before .before .before .before .before .before .before .before .before .before .before .before .before .before .before .pre .0 .situation .chains .most)
-
-add-kept : tie.Need-add-kept
-add-kept c = let s = c .before .before .before .before .before .before .before .before .before .before .before .before .before .before .before .before .before .before .before .before .before .before .before .before .before .before .before .before .before .before .before .before .before .before .before .before .before .before .before .before .before .before .before .before .before .before .before .before .before in let w = s .pre .0 in let few = clause-few _ _ _ _ _ _ _ w in omega (arith, few .0, few .1, s .pre .4 (w .situation .p) (w .situation .setting) .size)
-
-mul-kept : tie.Need-mul-kept
-mul-kept c = let s = c .before .before .before .before .before .before .before .before .before .before .before .before .before .before .before .before .before .before .before .before .before .before .before .before .before .before .before .before .before .before .before .before .before .before .before .before .before .before .before .before .before .before .before .before .before .before .before .before .before in let w = s .pre .0 in let few = clause-few _ _ _ _ _ _ _ w in omega (arith, few .0, few .1, s .pre .4 (w .situation .p) (w .situation .setting) .size)
-
-slice-write-kept : tie.Need-slice-write-kept
-slice-write-kept c = let s = c .before .before .before .before .before .before .before .before .before .before .before .before .before .before .before .before .before .before .before .before .before .before .before .before .before .before .before .before .before .before .before .before .before .before .before .before .before .before .before .before .before .before .before .before .before .before .before .before .before in let w = s .pre .0 in let few = clause-few _ _ _ _ _ _ _ w in omega (arith, few .0, few .1, s .pre .4 (w .situation .p) (w .situation .setting) .size)
-
-same-length-7 : tie.Need-same-length-7
-same-length-7 c = search needs
-
-same-length-8 : tie.Need-same-length-8
-same-length-8 c = search needs
-
-same-length-9 : tie.Need-same-length-9
-same-length-9 c = search needs
-
-same-length-10 : tie.Need-same-length-10
-same-length-10 c = search needs
-
-same-length-11 : tie.Need-same-length-11
-same-length-11 c = search needs
-
-same-length-12 : tie.Need-same-length-12
-same-length-12 c = search needs
-
-returns-2 : tie.Need-returns-2
-returns-2 c = let s = c .before .before .before .before .before .before .before .before .before .before .before .before .before .before .before .before .before .before .before .before .before .before .before .before .before .before .before .before .before .before .before .before .before .before .before .before .before .before .before .before .before .before .before .before .before .before .before .before .before in (
-  c .before .before .before .before .before .before .before .before .before .before .before .before .before .end-new .ensures .0,
-  λ w.
-      let g = stepped-within _ _ (s .args .at .number) _ _ _ _ _ _ _ _ (c .before .before .before .before .before .before .before .before .before .before .before .before .before .before .before .before .before .before .before .before .before .before .before .before .before .before .before .before .before .before .before .end-known .ensures .1 w) (c .before .before .before .before .before .before .before .before .before .before .before .before .before .before .before .before .before .before .before .before .if1 .left) in
-      kept-ends _ _ _ _ _ _ _ _ _ _ (s .pre .2) _ w _ (s .pre .6) _ _ _ g _ _ _
-      (rw (c .before .before .before .before .before .before .before .before .before .before .before .before .before .before .before .before .before .before .before .before .before .before .before .before .before .before .before .before .before .before .before .before .before .before .before .before .before .before .wide .ensures .0) at (c .before .before .before .before .before .before .before .before .before .before .before .before .before .end-new .ensures .1 (kept-asked _ _ _ _ _ _ _ _ _ _ (s .pre .2) _ w _ (s .pre .6) _ _ _ g) .0)),
-  λ l.
-      let w = s .pre .0 in
-      let g = stepped-within _ _ (s .args .at .number) _ _ _ _ _ _ _ _ (c .before .before .before .before .before .before .before .before .before .before .before .before .before .before .before .before .before .before .before .before .before .before .before .before .before .before .before .before .before .before .before .end-known .ensures .1 w) (c .before .before .before .before .before .before .before .before .before .before .before .before .before .before .before .before .before .before .before .before .if1 .left) in
-      let (step, gained) = c .before .before .before .before .before .before .before .before .before .before .before .before .before .end-new .ensures .1 (kept-asked _ _ _ _ _ _ _ _ _ _ (s .pre .2) _ w _ (s .pre .6) _ _ _ g) in
-      let kept = step-keeps _ _ (s .args .at .number) _ _ _ _ _ _ _ _ _ _ (s .pre .2) (c .before .before .before .before .before .before .before .before .before .before .before .before .before .before .before .before .before .before .before .before .before .before .before .before .before .before .before .before .before .before .before .end-known .ensures .1 w) (c .before .before .before .before .before .before .before .before .before .before .before .before .before .before .before .before .before .before .before .before .if1 .left) (s .pre .4 (w .situation .p) (w .situation .setting)) in
-      keeps-all _ _ _ (w .situation .setting)
-      (step-keeps _ _ (s .args .at .number) _ _ _ _ _ _ _ _ _ _ (omega (arith, s .pre .2, g .more)) step l
-      (rw (c .narrow .ensures) (keeping-gained (w .situation .setting) _ _ _ (w .clause .nth-clause) _ _ kept (rw (c .before .before .before .before .before .before .before .before .before .before .before .before .before .before .before .before .before .before .before .before .before .before .before .before .before .before .before .before .before .before .before .before .before .before .before .before .before .before .wide .ensures .0) at gained)))),
-)
 
 pub end-kept-spec : {M : Type 1} → statement M
 end-kept-spec =
@@ -113,25 +166,31 @@ end-kept-spec =
     (tie.spec
     add-wide
     mul-wide
-    slice-read-wide
+    shared-slice-read-wide
     wide-requires
-    end-known-requires
+    shl-all
+    add-wide-2
+    mul-wide-2
+    slice-read-wide
+    wide-requires-2
+    head-marks-requires
+    mul-first
+    add-end
+    mul-at-head
+    sub-at-head
+    part-at-head-start
+    part-at-head-end
+    at-head-requires
+    keep-requires
+    clear-requires
+    narrow-requires
+    add-kept
+    mul-kept
+    slice-write-kept
     same-length
     same-length-2
     same-length-3
     same-length-4
     same-length-5
     same-length-6
-    returns
-    end-new-requires
-    narrow-requires
-    add-kept
-    mul-kept
-    slice-write-kept
-    same-length-7
-    same-length-8
-    same-length-9
-    same-length-10
-    same-length-11
-    same-length-12
-    returns-2)
+    returns)
