@@ -8,9 +8,12 @@ use mathlib.Core.List.{List, [], List·Memᴰ, List·Memᴰ·not-nil}
 use lib.ListN.{length, getD, set, take, drop, replicate, length-set, length-replicate}
 use lib.Seq.{getD-set-same, getD-set-other}
 use lib.Pow.{pow-mono}
-use Rattle.terms.proofs.Masks.{has-none}
+use Rattle.terms.specs.Term.{Term}
+use Rattle.terms.proofs.Masks.{has-none, has-decided}
 use Rattle.marks.specs.Modes.{modes}
+use Rattle.marks.specs.Pass.{Pass}
 use Rattle.program.specs.Program.{Nth, Clause, Program}
+use Rattle.program.specs.Shapes.{shapes}
 use Rattle.program.proofs.ShapeLaws.{nth-same, member-decided}
 use Rattle.program.proofs.Nths.{nth-below}
 use Rattle.directory.specs.Layout.{clauseVars}
@@ -22,13 +25,14 @@ use Rattle.table.specs.Keys.{keyOf}
 use Rattle.table.specs.Steps.{opens, makes}
 use Rattle.table.specs.NewRows.{NewReached}
 use Rattle.table.proofs.NewRows.{new-reached}
+use Rattle.table.proofs.Added.{behind-keeps}
 use Rattle.table.proofs.Promise.{sound-same}
-use Rattle.steps.specs.Steps.{RowsIn, Stepped}
+use Rattle.steps.specs.Steps.{RowsIn, Given, Stepped}
 use Rattle.steps.specs.Situation.{Setting, HeadAsked}
 use Rattle.steps.specs.Heads.{HeadMark, Marked, FoundOn}
 use Rattle.steps.proofs.Stepping.{keys-stay, stepped-within}
 use Rattle.steps.proofs.Meetings.{setting-within}
-use Rattle.ends.specs.Keeping.{keptVars, keptMasks, keptSet, keptRows, keptWords, KeptIn, knownOf, Keeping, Keeps, Gained}
+use Rattle.ends.specs.Keeping.{keptVars, keptMasks, keptSet, keptRows, keptWords, KeptIn, knownOf, GoneTo, Keeping, Keeps, Gained, Unkept}
 use Rattle.ends.proofs.ClauseRows.{clause-few}
 use Rattle.ends.proofs.HeadMarks.{all-new, mark-all, mark-below}
 use Rattle.ends.proofs.KeptWords.{zero-word, part-length, part-members}
@@ -92,8 +96,9 @@ module _ (p : Program) (table : List ℕ) where
       }
 
 -- what is kept stays as the table grows, and as rows are linked
-pub keeping-stays : (p : Program) (table table′ kept : List ℕ) (n : ℕ) → ((m : ℕ) → m ≤ n → keysOf table′ m ≡ keysOf table m) → Keeping p table kept n → Keeping p table′ kept n
-keeping-stays p table table′ kept n same s =
+pub keeping-stays : (p : Program) (table table′ kept : List ℕ) (n : ℕ) (ks ks′ : List ℕ) → ((m : ℕ) → m ≤ n → keysOf table′ m ≡ keysOf table m)
+    → ((key : ℕ) → List·Memᴰ key ks → List·Memᴰ key ks′) → Keeping p table kept n ks → Keeping p table′ kept n ks′
+keeping-stays p table table′ kept n ks ks′ same more s =
     record {
       size = s .size;
       known-within = s .known-within;
@@ -102,14 +107,16 @@ keeping-stays p table table′ kept n same s =
             λ h. mark-stays p table table′ (knownOf kept k) k (length (c .body)) q e (s .members k c hc q l .0 h),
             λ m. s .members k c hc q l .1 (mark-stays p table′ table (knownOf kept k) k (length (c .body)) q (sym e) m),
           );
+      carried = λ k q l h c hc s′ C R S hs called passed.
+          more _ (s .carried k q l h c hc s′ C R S hs (rw (same (knownOf kept k) (s .known-within k c hc)) at called) passed);
     }
 
-pub keeping-later : (p : Program) (table kept : List ℕ) (n n′ : ℕ) → n ≤ n′ → Keeping p table kept n → Keeping p table kept n′
+pub keeping-later : (p : Program) (table kept : List ℕ) (n n′ : ℕ) {ks : List ℕ} → n ≤ n′ → Keeping p table kept n ks → Keeping p table kept n′ ks
 keeping-later p table kept n n′ b s =
-    record { size = s .size; known-within = λ k c hc. let l = s .known-within k c hc in omega arith; members = s .members }
+    record { size = s .size; known-within = λ k c hc. let l = s .known-within k c hc in omega arith; members = s .members; carried = s .carried }
 
 -- with all words 0 nothing is kept, of no rows
-pub keeping-none : (p : Program) (table kept : List ℕ) (n : ℕ) → kept ≡ replicate keptWords 0 → Keeping p table kept n
+pub keeping-none : (p : Program) (table kept : List ℕ) (n : ℕ) {ks : List ℕ} → kept ≡ replicate keptWords 0 → Keeping p table kept n ks
 keeping-none p table kept n e =
     record {
       size = ap length e ∙ length-replicate {A = ℕ} keptWords 0;
@@ -118,36 +125,48 @@ keeping-none p table kept n e =
         λ h. absurd (has-none (q % 16) (rw (zero (keptSet * k + q / 16)) at h)),
         λ m. absurd (no-mark p table 0 k (length (c .body)) q (subst (λ (x : ℕ). HeadMark p table 0 x k (length (c .body)) q) (zero (keptRows + k)) m)),
       );
+      carried = λ k q l h. absurd (has-none (q % 16) (rw (zero (keptSet * k + q / 16)) at h));
     }
   where
     zero : (i : ℕ) → getD kept i 0 ≡ 0
     zero i = ap (λ (l : List ℕ). getD l i 0) e ∙ zero-word keptWords i
 
--- a kept set that gains the marks of a set
-pub gained-marked : {P : ℕ → Type 0} (k : ℕ) (kept kept′ found : List ℕ) → Marked P (replicate setWords 0) found → Gained (InSet found) k kept kept′ → Gained P k kept kept′
-gained-marked k kept kept′ found m g =
+-- marks in a set are kept, or new
+pub kept-or-new : (kept : List ℕ) (k : ℕ) (found found′ : List ℕ) → Unkept kept k found found′ → (q : ℕ) → q < keptMasks → InSet found q → KeptIn kept k q ⊎ InSet found′ q
+kept-or-new kept k found found′ u q l i = at (has-decided (getD kept (keptSet * k + q / 16) 0) (q % 16))
+  where
+    at : Dec (KeptIn kept k q) → KeptIn kept k q ⊎ InSet found′ q
+    at (yes h) = inl h
+    at (no o) = inr (u .members q .1 (i, λ l′. o))
+
+-- a kept set that gains the new marks of a set has all of them
+pub gained-marked : {P : ℕ → Type 0} (k : ℕ) (kept kept′ found found′ : List ℕ) → Marked P (replicate setWords 0) found → Unkept kept k found found′ → Gained (InSet found′) k kept kept′
+    → Gained P k kept kept′
+gained-marked k kept kept′ found found′ m u g =
     record {
       size = g .size;
       members = λ q l. (
-        λ h. ⊎-elim inl (λ i. inr (⊎-elim (λ z. absurd (none-in-zeros setWords q z)) (λ x. x) (m .members q (omega arith) .0 i))) (g .members q l .0 h),
-        λ h. g .members q l .1 (⊎-elim inl (λ x. inr (m .members q (omega arith) .1 (inr x))) h),
+        λ h. ⊎-elim inl (λ i. inr (⊎-elim (λ z. absurd (none-in-zeros setWords q z)) (λ x. x) (m .members q (omega arith) .0 (u .members q .0 i .0)))) (g .members q l .0 h),
+        λ h. g .members q l .1 (⊎-elim inl (λ x. kept-or-new kept k found found′ u q l (m .members q (omega arith) .1 (inr x))) h),
       );
       others = g .others;
     }
 
 -- words say one program
-pub keeps-all : {words dir : List ℕ} {p : Program} (table kept : List ℕ) (n : ℕ) → Setting words dir p → Keeping p table kept n → Keeps words dir table kept n
-keeps-all table kept n s h p′ s′ = subst (λ (x : Program). Keeping x table kept n) (sound-same _ (s .accepted) (s′ .accepted)) h
+pub keeps-all : {words dir : List ℕ} {p : Program} (table kept : List ℕ) (n m : ℕ) → Setting words dir p → Keeping p table kept n (keysOf table m) → Keeps words dir table kept n m
+keeps-all table kept n m s h p′ s′ = subst (λ (x : Program). Keeping x table kept n (keysOf table m)) (sound-same _ (s .accepted) (s′ .accepted)) h
 
 -- the table of a step has the rows that are known
 pub step-keeps : (p : Program) (ks : List ℕ) (round room n n′ rows : ℕ) (table buckets table′ buckets′ kept : List ℕ) (Must : ℕ → Type 0) → rows ≤ n
-    → Stepped p ks round room n table buckets Must n′ table′ buckets′ → n′ ≤ room → Keeping p table kept rows → Keeping p table′ kept rows
+    → Stepped p ks round room n table buckets Must n′ table′ buckets′ → n′ ≤ room → Keeping p table kept rows (keysOf table n) → Keeping p table′ kept rows (keysOf table′ n′)
 step-keeps p ks round room n n′ rows table buckets table′ buckets′ kept Must l step within =
     let g = stepped-within p ks round room n n′ table buckets table′ buckets′ Must step within in
-    keeping-stays p table table′ kept rows (λ m b. keys-stay table table′ n m (omega arith) (g .same-rows))
+    keeping-stays p table table′ kept rows (keysOf table n) (keysOf table′ n′) (λ m b. keys-stay table table′ n m (omega arith) (g .same-rows))
+    (behind-keeps (keysOf table n) (Given p ks) (keysOf table′ n′) (g .behind))
 
-module _ {words dir : List ℕ} {p : Program} (setting : Setting words dir p) (table : List ℕ) (rows k : ℕ) {c : Clause} (hc : Nth (p .clauses) k c) (kept kept′ : List ℕ) (s : Keeping p table kept rows)
-    (since : ℕ) (early : since ≤ knownOf kept k) (g : Gained (HeadMark p table since rows k (length (c .body))) k kept kept′) where
+module _ {words dir : List ℕ} {p : Program} (setting : Setting words dir p) (table : List ℕ) (rows k : ℕ) {c : Clause} (hc : Nth (p .clauses) k c) (kept kept′ : List ℕ) {ks : List ℕ} (s : Keeping p table kept rows ks)
+    (since : ℕ) (early : since ≤ knownOf kept k) (g : Gained (HeadMark p table since rows k (length (c .body))) k kept kept′)
+    (gone : (q : ℕ) → q < keptMasks → KeptIn kept′ k q → GoneTo p k q (keysOf table rows) ks) where
   below : {k′ : ℕ} {c′ : Clause} → Nth (p .clauses) k′ c′ → k′ < 64
   below h = omega (arith, nth-below h, setting-within setting .clauses-most)
 
@@ -191,12 +210,13 @@ module _ {words dir : List ℕ} {p : Program} (setting : Setting words dir p) (t
           above (no e) = omega arith
 
   -- the marks that are new are kept, and all rows so far are known
-  pub keeping-gained : Keeping p table (set kept′ (keptRows + k) rows) rows
+  pub keeping-gained : Keeping p table (set kept′ (keptRows + k) rows) rows ks
   keeping-gained =
       record {
         size = length-set kept′ (keptRows + k) rows ∙ g .size ∙ s .size;
         known-within = λ k′ c′ h. within k′ c′ h (ℕ-discrete k′ k);
         members = λ k′ c′ h q l. at k′ c′ h q l (ℕ-discrete k′ k);
+        carried = λ k′ q l i c′ h. went k′ q l i c′ h (ℕ-discrete k′ k);
       }
     where
       within : (k′ : ℕ) (c′ : Clause) → Nth (p .clauses) k′ c′ → Dec (k′ ≡ k) → knownOf now-known k′ ≤ rows
@@ -210,13 +230,19 @@ module _ {words dir : List ℕ} {p : Program} (setting : Setting words dir p) (t
           let same : c′ ≡ c = nth-same (subst (λ (x : ℕ). Nth (p .clauses) x c′) e h) hc in
           rw (e, same, its-rows) (its-marks q l)
 
+      went : (k′ q : ℕ) → q < keptMasks → KeptIn now-known k′ q → (c′ : Clause) (h : Nth (p .clauses) k′ c′) → Dec (k′ ≡ k)
+          → (s′ C R : ℕ) (S : Term) → Nth (shapes p) s′ S → RowsIn p (keysOf table (knownOf now-known k′)) (call s′ C) → Pass (c′ .head) q S C R → List·Memᴰ (keyOf p (solution s′ R)) ks
+      went k′ q l i c′ h (no o) s′ C R S hs called = s .carried k′ q l (rw (other-word k′ q o (below h) l) at i) c′ h s′ C R S hs (rw (other-rows k′ o) at called)
+      went k′ q l i c′ h (yes e) s′ C R S hs called =
+          gone q l (rw (e, set-word k q (below hc) l) at i) c′ (subst (λ (x : ℕ). Nth (p .clauses) x c′) e h) s′ C R S hs (rw (e, its-rows) at called)
+
 -- the kept set of a clause of few variables has marks that result, and all that result from some of the rows that are known
 module _ (words dir table heads : List ℕ) (since rows k : ℕ) (w : HeadAsked words dir table heads since rows k) (kept : List ℕ)
-    (s : Keeping (w .situation .p) table kept rows) (few : getD dir (clauseVars + k) 0 ≤ keptVars) (first end : ℕ) (is-first : first ≡ keptSet * k) (is-end : end ≡ first + keptSet) where
+    {ks : List ℕ} (s : Keeping (w .situation .p) table kept rows ks) (few : getD dir (clauseVars + k) 0 ≤ keptVars) (first end : ℕ) (is-first : first ≡ keptSet * k) (is-end : end ≡ first + keptSet) where
   abbrev part : List ℕ
   part = take (end - first) (drop first kept)
 
-  in-part : (q : ℕ) → InSet part q ↔ ((q < keptMasks) × KeptIn kept k q)
+  pub in-part : (q : ℕ) → InSet part q ↔ ((q < keptMasks) × KeptIn kept k q)
   in-part = part-members kept (s .size) k (clause-few words dir table heads since rows k w .0) first end is-first is-end
 
   kept-mark : (q : ℕ) → InSet part q → HeadMark (w .situation .p) table 0 (knownOf kept k) k (length (w .clause .c .body)) q
