@@ -7,6 +7,7 @@ use ends::keep::KEPT_ROWS;
 use ends::keep::KEPT_SET;
 use ends::keep::KEPT_VARS;
 use ends::keep::keep;
+use ends::keep::new_marks;
 use rows::zeros::clear;
 use steps::place::Round;
 use steps::since::any_since;
@@ -21,7 +22,7 @@ ghost use Rattle.steps.specs.Steps.{Writable, Stepped};
 ghost use Rattle.ends.specs.Ends.{WithHead, Scratch};
 ghost use Rattle.ends.specs.Keeping.{keptVars, Keeps};
 
-// A clause whose marks are kept: those that are known go to the new call rows, and the others to all.
+// A clause whose marks are kept: those that are kept go to the call rows that they have not gone to yet, and the new ones to all.
 fn end_kept<'a>(
     words: &'a [u16],
     dir: &'a [u16],
@@ -37,13 +38,13 @@ fn end_kept<'a>(
     k: usize,
 ) -> usize
     requires { ⌜ HeadAsked (now words) (now dir) (now table) (now heads) (at .since) (at .rows) k × Writable (now table) (now buckets) n (at .room) × (at .rows ≤ n)
-        × Scratch (now seen) (now answers) (now found) × Keeps (now words) (now dir) (now table) (now kept) (at .rows)
+        × Scratch (now seen) (now answers) (now found) × Keeps (now words) (now dir) (now table) (now kept) (at .rows) n
         × (getD (now dir) (clauseVars + k) 0 ≤ keptVars) ⌝ }
     ensures { λ r. ⌜ Scratch (now (seen .exit)) (now (answers .exit)) (now (found .exit))
         × ((w : HeadAsked (now (words .entry)) (now (dir .entry)) (now (table .entry)) (now (heads .entry)) (at .since) (at .rows) k)
         → Stepped (w .situation .p) (keysOf (now (table .entry)) (at .rows)) (at .number) (at .room) n (now (table .entry)) (now (buckets .entry))
         (WithHead (w .situation .p) (keysOf (now (table .entry)) (at .since)) (keysOf (now (table .entry)) (at .rows)) k) r (now (table .exit)) (now (buckets .exit)))
-        × (r ≤ at .room → Keeps (now (words .entry)) (now (dir .entry)) (now (table .exit)) (now (kept .exit)) (at .rows)) ⌝ }
+        × (r ≤ at .room → Keeps (now (words .entry)) (now (dir .entry)) (now (table .exit)) (now (kept .exit)) (at .rows) r) ⌝ }
 {
     let before = at.rows;
     let all = 1usize << wide(dir[CLAUSE_VARS + k]);
@@ -51,8 +52,7 @@ fn end_kept<'a>(
     if at.since < known {
         known = at.since;
     }
-    let mut marks = 0;
-    if head_marks(
+    head_marks(
         words,
         dir,
         table,
@@ -63,9 +63,17 @@ fn end_kept<'a>(
         before,
         k,
         found,
-    ) {
+    );
+    let mut marks = 0;
+    if new_marks(kept, k, found) {
         marks = all;
     }
+    let from = Round {
+        number: at.number,
+        since: known,
+        rows: before,
+        room: at.room,
+    };
     let first = KEPT_SET * k;
     let end = first + KEPT_SET;
     let rows = at_head(
@@ -77,7 +85,7 @@ fn end_kept<'a>(
         seen,
         answers,
         n,
-        at,
+        from,
         k,
         &kept[first..end],
         all,
@@ -168,12 +176,12 @@ pub fn end_clause<'a>(
     k: usize,
 ) -> usize
     requires { ⌜ HeadAsked (now words) (now dir) (now table) (now heads) (at .since) (at .rows) k × Writable (now table) (now buckets) n (at .room) × (at .rows ≤ n)
-        × Scratch (now seen) (now answers) (now found) × Keeps (now words) (now dir) (now table) (now kept) (at .rows) ⌝ }
+        × Scratch (now seen) (now answers) (now found) × Keeps (now words) (now dir) (now table) (now kept) (at .rows) n ⌝ }
     ensures { λ r. ⌜ Scratch (now (seen .exit)) (now (answers .exit)) (now (found .exit))
         × ((w : HeadAsked (now (words .entry)) (now (dir .entry)) (now (table .entry)) (now (heads .entry)) (at .since) (at .rows) k)
         → Stepped (w .situation .p) (keysOf (now (table .entry)) (at .rows)) (at .number) (at .room) n (now (table .entry)) (now (buckets .entry))
         (WithHead (w .situation .p) (keysOf (now (table .entry)) (at .since)) (keysOf (now (table .entry)) (at .rows)) k) r (now (table .exit)) (now (buckets .exit)))
-        × (r ≤ at .room → Keeps (now (words .entry)) (now (dir .entry)) (now (table .exit)) (now (kept .exit)) (at .rows)) ⌝ }
+        × (r ≤ at .room → Keeps (now (words .entry)) (now (dir .entry)) (now (table .exit)) (now (kept .exit)) (at .rows) r) ⌝ }
 {
     if wide(dir[CLAUSE_VARS + k]) <= KEPT_VARS {
         return end_kept(

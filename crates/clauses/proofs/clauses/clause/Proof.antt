@@ -94,7 +94,7 @@ end-clause-requires c κs =
       g .writable,
       omega (arith, s .pre .2, g .more),
       record { none-seen = none-seen; all-answers = size; none-found = s .pre .3 .none-found },
-      keeps-all _ _ _ (w .situation .setting)
+      keeps-all _ _ _ (c .before .before .before .before .before .before .if1 .rows) (w .situation .setting)
           (step-keeps _ _ (s .args .at .number) _ _ _ _ _ _ _ _ _ _ (s .pre .2) (inl g) (g .writable .within) (s .pre .4 (w .situation .p) (w .situation .setting))),
     )
 

@@ -66,7 +66,7 @@ returns-2 c =
     let w = s .pre .0 in (
       c .before .before .before .before .before .before .before .before .before .before .end-wide .ensures .0,
       c .before .before .before .before .before .before .before .before .before .before .end-wide .ensures .1,
-      λ l. keeps-all _ _ _ (w .situation .setting) (step-keeps _ _ (s .args .at .number) _ _ _ _ _ _ _ _ _ _ (s .pre .2) (c .before .before .before .before .before .before .before .before .before .before .end-wide .ensures .1 w) l (s .pre .4 (w .situation .p) (w .situation .setting))),
+      λ l. keeps-all _ _ _ (c .before .before .before .before .before .before .before .before .before .before .end-wide .result) (w .situation .setting) (step-keeps _ _ (s .args .at .number) _ _ _ _ _ _ _ _ _ _ (s .pre .2) (c .before .before .before .before .before .before .before .before .before .before .end-wide .ensures .1 w) l (s .pre .4 (w .situation .p) (w .situation .setting))),
     )
 
 pub end-clause-spec : {M : Type 1} → statement M
