@@ -75,9 +75,11 @@ module _ (p : Program) (T₀ T T₀′ T′ : Row ℕ → Type 0) (more : Within
       (k, inr (inr (N, on-head hc (reached-within modes p T T′ more reached), s, C, (more _ called, λ x. n (fewer _ x)), ends)))
 
 -- what is kept of the rows stays when they are linked
-pub linked-keeps : (p : Program) (table table′ heads′ kept : List ℕ) {since rows : ℕ} → Linked table since rows table′ heads′ → Keeping p table kept rows → Keeping p table′ kept rows
+pub linked-keeps : (p : Program) (table table′ heads′ kept : List ℕ) {since rows : ℕ} → Linked table since rows table′ heads′
+    → Keeping p table kept rows (keysOf table rows) → Keeping p table′ kept rows (keysOf table′ rows)
 linked-keeps p table table′ heads′ kept {since} {rows} linked =
-    keeping-stays p table table′ kept rows (λ m l. befores-keys since rows table table′ (linked .only-befores) m)
+    let same = befores-keys since rows table table′ (linked .only-befores) in
+    keeping-stays p table table′ kept rows (keysOf table rows) (keysOf table′ rows) (λ m l. same m) (λ key h. rw (same rows) h)
 
 module _ (words dir : List ℕ) (p : Program) (setting : Setting words dir p) where
   few : Few p

@@ -26,7 +26,7 @@ Inv-loop words dir table₀ buckets₀ heads seen₀ answers₀ found₀ kept₀
     × ((w : Situation words dir table₀ heads (at .since) (at .rows))
     → Grew (w .p) (keysOf table₀ (at .rows)) (at .number) (at .room) (at .rows) table₀ buckets₀
     (Below (λ k. Keyed (w .p) (NewIn modes (w .p) (RowsIn (w .p) (keysOf table₀ (at .since))) (RowsIn (w .p) (keysOf table₀ (at .rows))) k)) k) rows table buckets)
-    × (length kept ≡ length kept₀) × Keeps words dir table kept (at .rows)
+    × (length kept ≡ length kept₀) × Keeps words dir table kept (at .rows) rows
 
 abbrev μ-loop : tie.MeasureT-loop
 μ-loop words dir table₀ buckets₀ heads seen₀ answers₀ found₀ kept₀ headed bodied at room clauses concerns rows₀ k₀ table buckets seen answers found kept rows k = clauses - k

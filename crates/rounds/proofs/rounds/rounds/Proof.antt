@@ -20,7 +20,7 @@ abbrev Inv-loop : tie.InvT-loop
 Inv-loop words dir table₀ buckets₀ heads₀ seen₀ answers₀ found₀ kept₀ room headed bodied rows₀ since₀ number₀ table buckets heads seen answers found kept rows since number =
     (length table ≡ length table₀) × (length buckets ≡ length buckets₀) × (length heads ≡ length heads₀) × (length seen ≡ length seen₀) × (length answers ≡ length answers₀)
     × (length found ≡ length found₀) × Scratch seen answers found × ((p : Program) → Setting words dir p → Rounding p table buckets heads room since rows number)
-    × (length kept ≡ length kept₀) × Keeps words dir table kept rows
+    × (length kept ≡ length kept₀) × Keeps words dir table kept rows rows
 
 abbrev μ-loop : tie.MeasureT-loop
 μ-loop words dir table₀ buckets₀ heads₀ seen₀ answers₀ found₀ kept₀ room headed bodied rows₀ since₀ number₀ table buckets heads seen answers found kept rows since number = room - rows
