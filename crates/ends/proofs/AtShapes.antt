@@ -1,10 +1,8 @@
 -- A shape that unifies with the head of a clause: its new call rows open the body, and then marks on the head go to its call rows.
 use Prim.Native.Nat.{ℕ, _+_, _≤_, _<_}
-use native.Mathlib.Omega.{arith}
 use mathlib.Core.Path.{_≡_, refl, subst}
 use mathlib.Core.List.{List}
 use lib.ListN.{length, getD}
-use Rattle.terms.specs.Term.{Term}
 use Rattle.terms.specs.Cells.{variables}
 use Rattle.terms.specs.Mask.{Marks}
 use Rattle.terms.proofs.Masks.{marks-for}
@@ -17,7 +15,6 @@ use Rattle.directory.specs.Directory.{ShapeAt}
 use Rattle.rows.specs.Rows.{keysOf}
 use Rattle.table.specs.Rules.{Row}
 use Rattle.table.specs.Keys.{firstSolution}
-use Rattle.table.specs.RoundKeys.{Keyed}
 use Rattle.table.proofs.ShapeVariables.{within-few}
 use Rattle.steps.specs.Steps.{Writable, Grew, Stepped, Emitted, emitted-call, emitted-cont}
 use Rattle.steps.proofs.Meetings.{setting-within}
@@ -27,7 +24,7 @@ use Rattle.calling.specs.Calls.{OpenedBy, Emits, EmitAsked}
 use Rattle.solving.specs.Solving.{ToShape, SetsAsked, SolvedAt}
 use Rattle.solving.proofs.SolveShape.{to-stays, found-stays}
 use Rattle.solving.proofs.SolveSets.{stepped-on}
-use Rattle.ends.specs.AtHead.{NoAtom, AtShape, ShapeGives}
+use Rattle.ends.specs.AtHead.{AtShape, ShapeGives}
 
 module _ {dir order table sets known found : List ℕ} {count since rows s newest there first end known-marks marks : ℕ}
     (a : AtShape dir order table sets known found count since rows s newest there first end known-marks marks) where

@@ -1,32 +1,26 @@
 -- A clause in a round: where it stands in the directory, the rows for its body atoms, and then those that it ends in.
 use Prim.Native.Nat.{ℕ, zero, suc, _+_, _-_, _≤_, _<_}
 use native.Mathlib.Omega.{arith}
-use mathlib.Core.Path.{_≡_, refl, sym, ap, subst, _∙_}
+use mathlib.Core.Path.{_≡_, sym, ap, subst, _∙_}
 use mathlib.Core.Bool.{Bool}
-use mathlib.Core.Logic.{_⊎_, inl, inr, ⊎-elim}
 use mathlib.Core.List.{List}
 use lib.ListN.{length, getD}
 use Rattle.terms.specs.Term.{Term, Occ}
 use Rattle.terms.specs.Mask.{Marks}
 use Rattle.terms.proofs.Masks.{marks-for}
-use Rattle.marks.specs.Modes.{modes}
 use Rattle.program.specs.Program.{Nth, Clause, Program}
 use Rattle.program.proofs.Nths.{nth-below, below-nth}
 use Rattle.directory.specs.Layout.{clauseHead, clauseFirst, clauseVars, dirWords}
 use Rattle.directory.specs.Directory.{predicateOf, ClauseAt}
 use Rattle.rows.specs.Rows.{keysOf}
 use Rattle.table.specs.Keys.{bodyIndex}
-use Rattle.table.specs.NewRows.{NewGoesOn, NewIn}
-use Rattle.table.specs.RoundKeys.{Keyed}
-use Rattle.table.proofs.Looking.{by-places}
-use Rattle.steps.specs.Steps.{RowsIn, Writable, Grew, Stepped}
+use Rattle.steps.specs.Steps.{Grew}
 use Rattle.steps.specs.Situation.{Situation, BodyOf, HeadAsked, LastAsked}
 use Rattle.steps.specs.Since.{PredicateAsked}
 use Rattle.steps.specs.Heads.{HeadMark, Marked, Told}
 use Rattle.steps.proofs.Meetings.{setting-within}
 use Rattle.steps.proofs.Bodies.{first-body, head-is-atom}
 use Rattle.steps.proofs.BodyAtoms.{some-cells, predicate-there}
-use Rattle.steps.proofs.Stepping.{keys-stay, grew-none, stepped-then, stepped-must}
 use Rattle.steps.proofs.SlotRows.{chains-stay}
 
 module _ (words dir table heads : List ℕ) (since rows k : ℕ) (w : HeadAsked words dir table heads since rows k) where

@@ -1,43 +1,34 @@
 -- The shapes of the predicate of a clause's head, one after another by their links: what the shapes before the link give is there.
 use Prim.Native.Nat.{ℕ, _+_, _-_, _≤_, _<_}
 use native.Mathlib.Omega.{arith}
-use mathlib.Core.Path.{_≡_, sym, subst, _∙_}
+use mathlib.Core.Path.{_≡_, sym, subst}
 use mathlib.Core.Logic.{_⊎_, inl, inr, ⊎-elim}
 use mathlib.Core.List.{List}
-use lib.ListN.{length, getD, take, drop}
+use lib.ListN.{length, getD}
 use Rattle.terms.specs.Term.{Term}
-use Rattle.terms.specs.Mask.{Marks}
-use Rattle.terms.specs.Unifier.{Apart, Unifies}
-use Rattle.marks.specs.Modes.{modes, InOrder}
-use Rattle.marks.specs.Passing.{VariablesOf}
+use Rattle.terms.specs.Unifier.{Unifies}
+use Rattle.marks.specs.Modes.{modes}
 use Rattle.program.specs.Program.{Nth, Clause, Program}
-use Rattle.program.specs.Shapes.{shapes, number}
+use Rattle.program.specs.Shapes.{shapes}
 use Rattle.program.proofs.ShapeLaws.{nth-same}
-use Rattle.program.proofs.Nths.{nth-below, below-nth}
-use Rattle.directory.specs.Layout.{clauseHead, clauseCells, clauseVars, clauseFirst, bodyStart, bodyCells, shapeNext, predicateShape, maxShapes, maxBodies}
-use Rattle.directory.specs.Directory.{Stands-at, BodyAt, Link, predicateOf}
+use Rattle.directory.specs.Layout.{shapeNext, predicateShape, maxShapes}
+use Rattle.directory.specs.Directory.{Link, predicateOf}
 use Rattle.rows.specs.Rows.{keysOf}
 use Rattle.table.specs.Rules.{Row}
 use Rattle.table.specs.Steps.{Opens, opens}
-use Rattle.table.specs.Keys.{bodyIndex}
-use Rattle.table.specs.RoundKeys.{Keyed}
-use Rattle.table.proofs.Steps.{opens-apart}
 use Rattle.steps.specs.Steps.{Writable, Grew, Stepped}
-use Rattle.steps.specs.Situation.{Meeting, Unifying, AtomRun}
 use Rattle.steps.specs.Heads.{SolvedOf, solved}
 use Rattle.steps.proofs.Meetings.{setting-within}
-use Rattle.steps.proofs.Bodies.{body-there, body-few, body-is-atom, head-is-atom}
+use Rattle.steps.proofs.Bodies.{head-is-atom}
 use Rattle.steps.proofs.ShapeAtoms.{shape-is-atom}
 use Rattle.steps.proofs.ShapeLinks.{shapesLeft, link-below, next-link, links-fall, passed-before, all-passed}
 use Rattle.steps.proofs.Stepping.{grew-none, grew-must, stepped-within, stepped-past}
-use Rattle.steps.proofs.SlotRows.{chains-stay}
 use Rattle.steps.proofs.Emitting.{goes-emitted}
-use Rattle.calling.proofs.ShapeVisits.{head-stands, head-variables, first-link}
-use Rattle.solving.proofs.SolveLaws.{none-late}
+use Rattle.calling.proofs.ShapeVisits.{head-predicate, head-declared, first-link}
 use Rattle.solving.proofs.SolveShape.{found-stays}
 use Rattle.solving.proofs.SolveSets.{stepped-on}
-use Rattle.ends.specs.AtHead.{FirstAtom, NoAtom, AtShape, ShapeGives, AtHead, HeadGives}
-use Rattle.ends.proofs.ClauseRows.{first-index, end-after}
+use Rattle.ends.specs.AtHead.{ClauseAsked, HeadKnown, OfShape, ShapeGives, AtHead, HeadGives}
+use Rattle.ends.proofs.ClauseRows.{stands-on}
 use Rattle.ends.proofs.HeadMarks.{one-predicate}
 
 module _ {words dir table₀ heads known found : List ℕ} {since old k known-marks marks : ℕ} (a : AtHead words dir table₀ heads known found since old k known-marks marks) where
@@ -50,49 +41,19 @@ module _ {words dir table₀ heads known found : List ℕ} {since old k known-ma
   abbrev hc : Nth (p .clauses) k c
   hc = a .head .clause .nth-clause
 
-  -- the first body atom
-  module _ (first end : ℕ) (is-first : first ≡ getD dir (clauseFirst + k) 0) (is-end : end ≡ getD dir (clauseFirst + k + 1) 0) where
-    body-length : end ≡ first + length (c .body)
-    body-length = end-after words dir table₀ heads since old k (a .head) first end is-first is-end
-
-    pub no-atom : end ≤ first → NoAtom c
-    no-atom l A hA = omega (arith, nth-below hA, body-length)
-
-    module _ (some : first < end) where
-      pub first-there : (A : Term) × Nth (c .body) 0 A
-      first-there = below-nth (c .body) 0 (omega (arith, body-length))
-
-      is-index : first ≡ bodyIndex p k 0
-      is-index = is-first ∙ first-index words dir table₀ heads since old k (a .head)
-
-      first-entry : BodyAt words p dir c 0 (first-there .0) first
-      first-entry = subst (λ (j : ℕ). BodyAt words p dir c 0 (first-there .0) j) (sym is-index) (body-there (a .head .situation .setting) hc (first-there .1))
-
-      pub first-few : first < maxBodies
-      first-few = let few = body-few (a .head .situation .setting) hc (first-there .1) in omega (arith, is-index)
-
-      -- its cells
-      pub first-run : (from to : ℕ) → from ≡ getD dir (bodyStart + first) 0 → to ≡ from + getD dir (bodyCells + first) 0
-          → (from ≤ to) × (to ≤ length words) × AtomRun (take (to - from) (drop from words)) (first-there .0)
-      first-run from to e f =
-          let s = first-entry .stands in
-          let cells : to - from ≡ getD dir (bodyCells + first) 0 = omega arith in (
-            omega arith,
-            omega (arith, s .fits),
-            record {
-              predicates = p .predicates;
-              functions = p .functions;
-              is = rw (cells, e) (s .run);
-              atom = body-is-atom (a .head .situation .setting) hc (first-there .1);
-              few = setting-within (a .head .situation .setting) .predicates-most;
-            },
-          )
-
-      pub first-atom : {order : List ℕ} {count : ℕ} → InOrder (first-there .0) (number (first-there .0)) order count → FirstAtom p k c first order count
-      first-atom o = record { A = first-there .0; nth-atom = first-there .1; is = is-index; in-order = o }
+  abbrev pub clause-asked : ClauseAsked words dir k
+  clause-asked = record { p = p; setting = a .head .situation .setting; c = c; nth-clause = hc }
 
   abbrev predicate : ℕ
   predicate = predicateOf (c .head)
+
+  -- the head's first word is its predicate
+  pub start-in-words : {order : List ℕ} {start cells there first end count : ℕ} → HeadKnown words p k c order start cells there first end count
+      → (start < length words) × (getD words start 0 < 64)
+  start-in-words h =
+      let (is, within) = head-predicate (a .head .situation .setting) hc (h .stands) in
+      let declared = head-declared (a .head .situation .setting) hc in
+      (within, rw is (omega (arith, declared .0, declared .1)))
 
   abbrev Gives : ℕ → ℕ → Type 0
   Gives = ShapeGives p (keysOf table₀ since) (keysOf table₀ old) k known found
@@ -101,33 +62,25 @@ module _ {words dir table₀ heads known found : List ℕ} {since old k known-ma
   abbrev Below : ℕ → ℕ → Type 0
   Below upto key = (s : ℕ) × (S : Term) × Nth (shapes p) s S × (predicateOf S ≡ predicate) × (s < upto) × Gives s key
 
-  module _ (round room n : ℕ) (buckets₀ : List ℕ) (start cells there first end count : ℕ) (order : List ℕ) (from : ℕ) where
-    -- the head and the first body atom are known; shapes without a call row from row `from` on are passed by; what the shapes before the link give is there
+  module _ (round room n : ℕ) (buckets₀ order : List ℕ) (start cells there first end count from : ℕ) where
+    -- the head and the first body atom are known; call rows before row `from` are passed by; what the shapes before the link give is there
     pub record Along (link rows : ℕ) (table buckets : List ℕ) : Type 0 where
-      pub stands : Stands-at words (c .head) start cells
-      pub variables : VariablesOf (c .head) there
-      pub first-atom : first < end → FirstAtom p k c first order count
-      pub no-atom : end ≤ first → NoAtom c
+      pub head-known : HeadKnown words p k c order start cells there first end count
       pub from-new : from ≤ since
       pub from-all : 0 < marks → from ≡ 0
       pub upto : ℕ
       pub links : Link (shapes p) predicate upto link
       pub grew : Grew p (keysOf table₀ old) round room n table₀ buckets₀ (Below upto) rows table buckets
 
-    pub along-begins : {link : ℕ} → Writable table₀ buckets₀ n room → start ≡ getD dir (clauseHead + k) 0 → cells ≡ getD dir (clauseCells + k) 0
-        → (there < 65536) × Marks (λ v. v < getD dir (clauseVars + k) 0) there → (first < end → FirstAtom p k c first order count) → (end ≤ first → NoAtom c)
+    pub along-begins : {link : ℕ} → Writable table₀ buckets₀ n room → HeadKnown words p k c order start cells there first end count
         → (from ≤ since) × (0 < marks → from ≡ 0) → link ≡ getD dir (predicateShape + getD words start 0) 0 → Along link n table₀ buckets₀
-    along-begins writable e f (small, m) some none (new, all) g =
-        let at-start = head-stands (a .head .situation .setting) hc e f in
+    along-begins writable known-head (new, all) g =
         record {
-          stands = at-start;
-          variables = head-variables (a .head .situation .setting) hc small m;
-          first-atom = some;
-          no-atom = none;
+          head-known = known-head;
           from-new = new;
           from-all = all;
           upto = 0;
-          links = first-link (a .head .situation .setting) hc at-start g;
+          links = first-link (a .head .situation .setting) hc (known-head .stands) g;
           grew = grew-none p (keysOf table₀ old) round room n table₀ buckets₀ _ writable (λ key (s, S, hs, same, l, h). absurd (omega arith));
         }
 
@@ -136,29 +89,11 @@ module _ {words dir table₀ heads known found : List ℕ} {since old k known-ma
         abbrev s : ℕ
         s = link - 1
 
-        abbrev S : Term
-        S = v .links .named h .1
-
-        abbrev hs : Nth (shapes p) s S
-        hs = v .links .named h .2
-
         pub along-few : s < maxShapes
         along-few = link-below (a .head .situation .setting) (v .links) h
 
         pub along-falls : shapesLeft (getD dir (shapeNext + s) 0) < shapesLeft link
         along-falls = links-fall (a .head .situation .setting) (v .links) h
-
-        abbrev pub along-meets : Meeting words dir s start cells
-        along-meets =
-            record {
-              p = p;
-              setting = a .head .situation .setting;
-              S = S;
-              nth-shape = hs;
-              A = c .head;
-              stands = v .stands;
-              atom = head-is-atom (a .head .situation .setting) hc;
-            }
 
         -- the shapes before the next link are those before this link, and this one
         at-link : (key : ℕ) → Below link key → Below (v .upto) key ⊎ Gives s key
@@ -169,10 +104,7 @@ module _ {words dir table₀ heads known found : List ℕ} {since old k known-ma
             → Along (getD dir (shapeNext + s) 0) r table′ buckets′
         along-next g =
             record {
-              stands = v .stands;
-              variables = v .variables;
-              first-atom = v .first-atom;
-              no-atom = v .no-atom;
+              head-known = v .head-known;
               from-new = v .from-new;
               from-all = v .from-all;
               upto = link;
@@ -180,57 +112,22 @@ module _ {words dir table₀ heads known found : List ℕ} {since old k known-ma
               grew = grew-must p (keysOf table₀ old) round room n _ table₀ buckets₀ _ _ _ _ at-link g;
             }
 
-        along-nothing : ((key : ℕ) → Gives s key → ⊥) → Along (getD dir (shapeNext + s) 0) rows table buckets
-        along-nothing none =
-            along-next (grew-must p (keysOf table₀ old) round room n rows table₀ buckets₀ table buckets (Below (v .upto)) _ (λ key. ⊎-elim (λ b. b) (λ g. absurd (none key g))) (v .grew))
-
-        -- the shape has no call row from row `from` on
-        pub along-empty : getD heads s 0 ≤ from → Along (getD dir (shapeNext + s) 0) rows table buckets
-        along-empty l = along-nothing (λ key. ⊎-elim
-            (λ (N, (M, new, o), given). none-late p table₀ heads since old since s M (a .head .situation .chains) along-few (omega (arith, v .from-new)) new)
-            (⊎-elim (λ (row, g, e). none-known g) (λ (row, g, e). none-found g)))
-          where
-            none-known : {row : Row ℕ} → SolvedOf p (keysOf table₀ since) (keysOf table₀ old) k known s row → ⊥
-            none-known (solved {C = C} hc′ in-set hs′ new passed) = none-late p table₀ heads since old since s C (a .head .situation .chains) along-few (omega (arith, v .from-new)) new
-
-            none-found : {row : Row ℕ} → SolvedOf p (keysOf table₀ 0) (keysOf table₀ old) k found s row → ⊥
-            none-found (solved {q = q} {C = C} hc′ in-set hs′ new passed) =
-                let few : 0 < marks = omega (arith, a .found-on .below q in-set) in
-                none-late p table₀ heads since old 0 s C (a .head .situation .chains) along-few (omega (arith, v .from-all few)) new
-
-        -- the shape and the head are apart
-        pub along-apart : Apart S (c .head) → Along (getD dir (shapeNext + s) 0) rows table buckets
-        along-apart apart = along-nothing (λ key. ⊎-elim
-            (λ (N, (M, new, o), given). opens-apart p hc hs apart o)
-            (⊎-elim (λ (row, g, e). not-solved g) (λ (row, g, e). not-solved g)))
-          where
-            not-solved : {ks₀ ks set : List ℕ} {row : Row ℕ} → SolvedOf p ks₀ ks k set s row → ⊥
-            not-solved (solved {c = c′} {S = S′} hc′ in-set hs′ new passed) =
-                let u : Unifies (c .head) S′ (passed .α) (passed .β) = subst (λ (d : Clause). Unifies (d .head) S′ (passed .α) (passed .β)) (nth-same hc′ hc) (passed .unifier .unifies) in
-                apart (passed .β) (passed .α) (sym (subst (λ (T : Term). Unifies (c .head) T (passed .α) (passed .β)) (nth-same hs′ hs) u))
-
         module _ (behind : old ≤ n) where
-          abbrev pub along-shape : {sets : List ℕ} {newest : ℕ} → newest ≡ getD heads s 0 → Unifying S (c .head) sets
-              → AtShape dir order table sets known found count since old s newest there first end known-marks marks
-          along-shape e u =
+          abbrev pub along-shape : OfShape words dir order table heads known found start cells there first end count since old s from known-marks marks
+          along-shape =
               record {
-                words = words;
-                heads = heads;
-                p = p;
-                setting = a .head .situation .setting;
-                chains = chains-stay p table₀ heads since old (a .head .situation .chains) table n behind (v .grew .same-rows) (v .grew .same-length);
                 k = k;
-                c = c;
-                nth-clause = hc;
-                S = S;
-                nth-shape = hs;
-                newest-is = e;
-                unifying = u;
-                head-variables = v .variables;
-                first-atom = v .first-atom;
-                no-atom = v .no-atom;
-                known-on = found-stays p table₀ table old n k _ known known-marks behind (v .grew .same-rows) (a .known-on);
-                found-on = found-stays p table₀ table old n k _ found marks behind (v .grew .same-rows) (a .found-on);
+                at-head =
+                    record {
+                      head = stands-on words dir heads table₀ buckets₀ since old round room n behind k (a .head) _ rows table buckets (v .grew);
+                      known-on = found-stays p table₀ table old n k _ known known-marks behind (v .grew .same-rows) (a .known-on);
+                      found-on = found-stays p table₀ table old n k _ found marks behind (v .grew .same-rows) (a .found-on);
+                    };
+                head-known = v .head-known;
+                S = v .links .named h .1;
+                nth-shape = v .links .named h .2;
+                from-new = v .from-new;
+                from-all = v .from-all;
               }
 
           module _ {r : ℕ} {table′ buckets′ : List ℕ}
