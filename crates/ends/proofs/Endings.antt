@@ -3,7 +3,7 @@ use Prim.Native.Nat.{ℕ, _+_, _-_, _*_, _^_, _≤_, _<_}
 use native.Mathlib.Omega.{arith}
 use native.Mathlib.Decide.{ℕ-discrete}
 use native.Mathlib.Nat.{le-refl}
-use mathlib.Core.Path.{_≡_, refl, subst}
+use mathlib.Core.Path.{_≡_, refl}
 use mathlib.Core.Logic.{_⊎_, inl, inr, ⊎-elim}
 use mathlib.Core.List.{List, [], List·Memᴰ, List·Memᴰ·not-nil}
 use lib.ListN.{length, getD, set, take, drop, replicate}
@@ -27,7 +27,7 @@ use Rattle.steps.specs.Since.{SinceIn}
 use Rattle.steps.specs.Heads.{HeadMark, Marked, Solved, solved, FoundOn}
 use Rattle.ends.specs.AtHead.{HeadGives}
 use Rattle.ends.specs.Ends.{AtEnd, WithHead}
-use Rattle.ends.specs.Keeping.{keptVars, keptMasks, keptSet, keptRows, KeptIn, knownOf, GoneTo, Keeping, Gained, Unkept}
+use Rattle.ends.specs.Keeping.{keptVars, keptMasks, keptSet, keptRows, knownOf, GoneTo, Keeping, Gained, Unkept}
 use Rattle.ends.proofs.HeadMarks.{EndsBy, keys-within, all-new, mark-below, found-result, found-holds, found-all, ends-solved, late-found}
 use Rattle.ends.proofs.KeptMarks.{reached-known-or-new, reached-earlier, keeping-stays, kept-or-new, gained-marked, keeping-gained, in-part, few-masks, kept-holds}
 
