@@ -47,7 +47,7 @@ pub fn tabled(words: &[u16], dir: &mut [u16], table: &mut [u16]) -> Reply
     ensures { λ r. ⌜ Promise (now (words .entry)) (length (now (table .entry))) r (now (table .exit)) ⌝ }
     ensures in_dir { λ _. ⌜ ((p : Program) → faults (now (words .entry)) ≡ sound p → Directory (now (words .entry)) p (now (dir .exit))) ⌝ }
 {
-    let mut buckets = [0u16; 4096];
+    let mut buckets = [0u16; 2048];
     let mut heads = [0u16; 3075];
     let mut seen = [0u16; 4096];
     let mut answers = [0u16; 4096];

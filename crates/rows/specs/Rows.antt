@@ -16,7 +16,7 @@ abbrev pub masks : ℕ
 masks = 65536
 
 abbrev pub buckets : ℕ
-buckets = 4096
+buckets = 2048
 
 -- "at most 4,096"
 abbrev pub maxRows : ℕ

@@ -10,7 +10,7 @@ use terms::walk::wide;
 
 pub const ROW_SIZE: usize = 5;
 
-pub const BUCKETS: usize = 4096;
+pub const BUCKETS: usize = 2048;
 
 pub const MAX_ROWS: usize = 4096;
 
