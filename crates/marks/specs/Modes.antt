@@ -25,6 +25,10 @@ Renumbered A f M R = Marks (λ k. (v : ℕ) × Occ v A × (f v ≡ k) × Has M v
 abbrev pub Reordered : List ℕ → ℕ → ℕ → ℕ → Type 0
 Reordered order count M R = Marks (λ k. (k < count) × Has M (getD order k 0)) R
 
+-- and back: the atom's variable order[k] is marked where the shape's variable k is
+abbrev pub Restored : List ℕ → ℕ → ℕ → ℕ → Type 0
+Restored order count M R = Marks (λ v. (k : ℕ) × (k < count) × (getD order k 0 ≡ v) × Has M k) R
+
 -- the list has the atom's variables, each at its number in the shape
 pub record InOrder (A : Term) (f : ℕ → ℕ) (order : List ℕ) (count : ℕ) : Type 0 where
   pub placed : (v : ℕ) → Occ v A → (f v < count) × (getD order (f v) 0 ≡ v)

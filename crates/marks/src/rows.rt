@@ -1,4 +1,4 @@
-// What the rules do with the masks of rows: put together, kept to a list, taken to a shape's numbering.
+// What the rules do with the masks of rows: put together, kept to a list, taken to a shape's numbering and back.
 use crate::bits::mark;
 use crate::bits::marks;
 ghost use mathlib.Core.Path.{_≡_};
@@ -6,7 +6,7 @@ ghost use Prim.Native.Nat.{ℕ, _≤_, _<_};
 ghost use lib.ListN.{getD};
 ghost use Rattle.terms.specs.Cells.{variables};
 ghost use Rattle.terms.specs.Mask.{Has};
-ghost use Rattle.marks.specs.Modes.{Together, Kept, Reordered};
+ghost use Rattle.marks.specs.Modes.{Together, Kept, Reordered, Restored};
 
 // "the cont row's marks together with those that the solution passes"
 pub fn together(m: u16, n: u16) -> u16
@@ -43,4 +43,20 @@ pub fn renumber(order: &[u8; 16], count: usize, mask: u16) -> u16
         k += 1;
     }
     renumbered
+}
+
+// Marks in the numbering of a shape, back in that of the clause.
+pub fn restore(order: &[u8; 16], count: usize, mask: u16) -> u16
+    requires { ⌜ (count ≤ variables) × ((k : ℕ) → k < count → getD (now order) k 0 < variables) ⌝ }
+    ensures { λ r. ⌜ Restored (now (order .entry)) count mask r ⌝ }
+{
+    let mut restored = 0u16;
+    let mut k = 0;
+    while k < count {
+        if marks(mask, k) {
+            restored = restored | mark(wide_variable(order[k]));
+        }
+        k += 1;
+    }
+    restored
 }
