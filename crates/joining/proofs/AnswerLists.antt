@@ -2,7 +2,7 @@
 use Prim.Native.Nat.{ℕ, _+_, _≤_, _<_}
 use native.Mathlib.Omega.{arith}
 use native.Mathlib.Numerals.{add-one}
-use mathlib.Core.Path.{_≡_, refl, _∙_}
+use mathlib.Core.Path.{_≡_, refl, sym, _∙_}
 use mathlib.Core.Bool.{true, false}
 use mathlib.Core.Logic.{_⊎_, inl, inr, ⊎-elim, _↔_}
 use mathlib.Core.List.{List, [], _∷_, _++_, List·Memᴰ, List·Memᴰ·head, List·Memᴰ·cases-cons, List·Memᴰ·append-cases, List·Memᴰ·eq-of-singleton, List·Memᴰ·not-nil, Memᴰ·append-left, Memᴰ·append-right, Memᴰ·cast}
@@ -13,7 +13,7 @@ use Rattle.rows.specs.Rows.{masks}
 use Rattle.rows.specs.MaskSet.{InSet, Inserted}
 use Rattle.program.proofs.OwnShape.{upTo, length-upTo, upTo-has}
 use Rattle.table.specs.Table.{Distinct}
-use Rattle.table.proofs.Distinct.{distinct-length}
+use Rattle.table.proofs.Distinct.{distinct-length, distinct-append}
 use Rattle.joining.specs.Answers.{Listing, Sources, Found}
 
 -- distinct numbers below n are at most n
@@ -49,6 +49,7 @@ found-aside {answers = answers} {count = count} {r = r} i m l f =
             within = f .listing .within;
             small = rw front (f .listing .small);
             same = rw front (f .listing .same);
+            distinct = rw front (f .listing .distinct);
           };
       more = f .more;
       keeps = take-set-le count answers i m (omega (arith, f .more)) ∙ f .keeps;
@@ -73,6 +74,7 @@ module _ {P : ℕ → Type 0} {seen answers : List ℕ} {count r : ℕ} {answers
                 λ h. ⊎-elim (f .listing .same q l .0) (λ e. Memᴰ·cast e there) (i .members q .0 h),
                 λ h. i .members q .1 (inl (f .listing .same q l .1 h)),
               );
+              distinct = f .listing .distinct;
             };
         more = f .more;
         keeps = f .keeps;
@@ -103,6 +105,9 @@ module _ {P : ℕ → Type 0} {seen answers : List ℕ} {count r : ℕ} {answers
                 λ h. is q .1 (⊎-elim (λ b. inl (f .listing .same q l .0 b)) inr (i .members q .0 h)),
                 λ h. i .members q .1 (⊎-elim (λ b. inl (f .listing .same q l .1 b)) inr (is q .0 h)),
               );
+              distinct =
+                  rw behind (distinct-append (take r answers) (m ∷ []) (f .listing .distinct) (λ n. List·Memᴰ·not-nil n, tt)
+                  (λ a h h′. i .was-new .0 tt (f .listing .same m small .1 (Memᴰ·cast (sym (List·Memᴰ·eq-of-singleton h)) h′))));
             };
         more = omega (arith, f .more);
         keeps = take-set-le count answers r m (f .more) ∙ f .keeps;

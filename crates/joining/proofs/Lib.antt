@@ -10,3 +10,5 @@ pub mod AnswersMet
 pub mod AnswersOfShapes
 pub mod Settling
 pub mod Forgetting
+pub mod KeptMasks
+pub mod KeptPlaces

@@ -37,29 +37,49 @@ listing-none seen answers zeros size =
       within = omega arith;
       small = λ q m. absurd (List·Memᴰ·not-nil m);
       same = λ q l. (λ h. absurd (none-in-zeros setWords q (subst (λ (s : List ℕ). InSet s q) zeros h)), λ m. absurd (List·Memᴰ·not-nil m));
+      distinct = tt;
     }
+
+-- the answers of the rows from `known` on are listed, the fresh ones first
+pub record SinceKnown (p : Program) (table : List ℕ) (A : Term) (known since rows : ℕ) (answers : List ℕ) (fresh all : ℕ) : Type 0 where
+  pub fresh-are : (q : ℕ) → List·Memᴰ q (take fresh answers) ↔ Answer p table A since rows q
+  pub are : (q : ℕ) → List·Memᴰ q (take all answers) ↔ Answer p table A known rows q
+  pub few : fresh ≤ all
 
 -- the answers at the back were listed behind the fresh ones
-pub answered : (p : Program) (table : List ℕ) (A : Term) (from since rows newest : ℕ) → since ≤ rows → (since < newest → from ≡ 0)
-    → {seen answers seen′ answers′ : List ℕ} {fresh older all : ℕ} → Parted p table A from since rows seen answers fresh older
-    → Found (Stands answers older maxRows) seen′ answers′ fresh all answers → Answered p table A since rows newest answers′ fresh all
-answered p table A from since rows newest new from-start {answers = answers} {fresh = fresh} {older = older} parted found =
-    record {
-      fresh-are = λ q. subst (λ (l : List ℕ). List·Memᴰ q l ↔ Answer p table A since rows q) (sym (found .keeps)) (listed q);
-      all-are = λ q m.
-          ⊎-elim (λ n. let (r, f, l, s, S, hs, e, t) = listed q .0 n in (r, omega arith, l, s, S, hs, e, t))
-          (λ n. let (r, f, l, s, S, hs, e, t) = parted .back q .0 n in (r, omega arith, omega arith, s, S, hs, e, t))
-          (found .members q .0 m);
-      all-new = λ late q (r, f, l, s, S, hs, e, t). found .members q .1 (at late q r l s S hs e t (decLt r since));
-    }
-  where
-    listed : (q : ℕ) → List·Memᴰ q (take fresh answers) ↔ Answer p table A since rows q
-    listed q = (λ m. ⊎-elim (λ n. absurd (List·Memᴰ·not-nil n)) (λ a. a) (parted .front .members q .0 m), λ a. parted .front .members q .1 (inr a))
+module _ (p : Program) (table : List ℕ) (A : Term) (from since rows : ℕ) {seen answers seen′ answers′ : List ℕ} {fresh older all : ℕ} (parted : Parted p table A from since rows seen answers fresh older)
+    (found : Found (Stands answers older maxRows) seen′ answers′ fresh all answers) where
+  listed : (q : ℕ) → List·Memᴰ q (take fresh answers) ↔ Answer p table A since rows q
+  listed q = (λ m. ⊎-elim (λ n. absurd (List·Memᴰ·not-nil n)) (λ a. a) (parted .front .members q .0 m), λ a. parted .front .members q .1 (inr a))
 
-    at : since < newest → (q r : ℕ) → r < rows → (s : ℕ) (S : Term) → Nth (shapes p) s S → slotAt table r ≡ firstSolution + s → Pass S (maskAt table r) A 0 q → Dec (r < since)
-        → List·Memᴰ q (take fresh answers) ⊎ Stands answers older maxRows q
-    at late q r l s S hs e t (yes k) = inr (parted .back q .1 (r, omega (arith, from-start late), k, s, S, hs, e, t))
-    at late q r l s S hs e t (no k) = inl (listed q .1 (r, omega arith, l, s, S, hs, e, t))
+  settled-fresh : (q : ℕ) → List·Memᴰ q (take fresh answers′) ↔ Answer p table A since rows q
+  settled-fresh q = subst (λ (l : List ℕ). List·Memᴰ q l ↔ Answer p table A since rows q) (sym (found .keeps)) (listed q)
+
+  module _ (new : since ≤ rows) (early : from ≤ since) where
+    settled-are : (q : ℕ) → List·Memᴰ q (take all answers′) ↔ Answer p table A from rows q
+    settled-are q = (
+      λ m.
+          ⊎-elim (λ n. let (r, f, l, s, S, hs, e, t) = listed q .0 n in (r, omega arith, l, s, S, hs, e, t))
+          (λ n. let (r, f, l, s, S, hs, e, t) = parted .back q .0 n in (r, f, omega arith, s, S, hs, e, t))
+          (found .members q .0 m),
+      λ (r, f, l, s, S, hs, e, t). found .members q .1 (at r f l s S hs e t (decLt r since)),
+    )
+      where
+        at : (r : ℕ) → from ≤ r → r < rows → (s : ℕ) (S : Term) → Nth (shapes p) s S → slotAt table r ≡ firstSolution + s → Pass S (maskAt table r) A 0 q → Dec (r < since)
+            → List·Memᴰ q (take fresh answers) ⊎ Stands answers older maxRows q
+        at r f l s S hs e t (yes k) = inr (parted .back q .1 (r, f, k, s, S, hs, e, t))
+        at r f l s S hs e t (no k) = inl (listed q .1 (r, omega arith, l, s, S, hs, e, t))
+
+    pub since-known : SinceKnown p table A from since rows answers′ fresh all
+    since-known = record { fresh-are = settled-fresh; are = settled-are; few = found .more }
+
+    pub answered : (newest : ℕ) → (since < newest → from ≡ 0) → Answered p table A since rows newest answers′ fresh all
+    answered newest from-start =
+        record {
+          fresh-are = settled-fresh;
+          all-are = λ q m. let (r, f, l, s, S, hs, e, t) = settled-are q .0 m in (r, omega arith, l, s, S, hs, e, t);
+          all-new = λ late q (r, f, l, s, S, hs, e, t). settled-are q .1 (r, omega (arith, from-start late), l, s, S, hs, e, t);
+        }
 
 module _ {words dir table heads : List ℕ} {since rows j : ℕ} (w : Situation words dir table heads since rows) (b : BodyOf (w .p) j) where
   pub place-slot : firstCont + j < slots

@@ -35,7 +35,7 @@ use Rattle.steps.proofs.MarkedSets.{marked-same}
 use Rattle.joining.proofs.PlaceAnswers.{place-chain, place-slot, no-conts, conts-reach}
 
 -- a number has one body atom, whichever way the program and the atom are found
-one-body : (p : Program) {j : ℕ} (b b′ : BodyOf p j) → (b .c ≡ b′ .c) × (b .i ≡ b′ .i)
+pub one-body : (p : Program) {j : ℕ} (b b′ : BodyOf p j) → (b .c ≡ b′ .c) × (b .i ≡ b′ .i)
 one-body p b b′ =
     let (k, i) = index-same p (b .nth-clause) (b .nth-atom) (b′ .nth-clause) (b′ .nth-atom) (sym (b .is) ∙ b′ .is) in
     (nth-same (rw k at (b .nth-clause)) (b′ .nth-clause), i)

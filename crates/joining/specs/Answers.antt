@@ -23,6 +23,7 @@ pub record Listing (seen answers : List ℕ) (count : ℕ) : Type 0 where
   pub within : count ≤ 4096
   pub small : (q : ℕ) → List·Memᴰ q (take count answers) → q < masks
   pub same : (q : ℕ) → q < masks → InSet seen q ↔ List·Memᴰ q (take count answers)
+  pub distinct : Distinct (take count answers)
 
 -- the rows that gave the answers, each one answer at most: so there are no more answers than rows
 pub record Sources (From : ℕ → Type 0) (rows count : ℕ) : Type 0 where

@@ -2,3 +2,4 @@
 pub mod Answers
 pub mod AnswerSteps
 pub mod Joined
+pub mod KeptAnswers

@@ -10,21 +10,22 @@ use Rattle.joining.proofs.joins.last_place.Statement.{statement}
 use Rattle.joining.proofs.joins.last_place.Tie as tie
 
 add-wide : tie.Need-add-wide
-add-wide c = let m = c .before .before .before .before .before .before .before .pre .0 in omega (arith, slot-there (m .situation) (m .body) .1)
+add-wide c = let m = c .before .before .before .before .before .before .before .before .pre .0 in omega (arith, slot-there (m .situation) (m .body) .1)
 
 mul-wide : tie.Need-mul-wide
-mul-wide c = let m = c .before .before .before .before .before .before .before .pre .0 in omega (arith, slot-there (m .situation) (m .body) .1)
+mul-wide c = let m = c .before .before .before .before .before .before .before .before .pre .0 in omega (arith, slot-there (m .situation) (m .body) .1)
 
 shared-slice-read-wide : tie.Need-shared-slice-read-wide
-shared-slice-read-wide c = let m = c .before .before .before .before .before .before .before .before .pre .0 in slot-there (m .situation) (m .body) .0
+shared-slice-read-wide c = let m = c .before .before .before .before .before .before .before .before .before .pre .0 in slot-there (m .situation) (m .body) .0
 
 wide-requires : tie.Need-wide-requires
 wide-requires c κs = search needs
 
 returns : tie.Need-returns
 returns c =
-    let s = c .before .before .before .before .before .before .before .before .before .before in (
+    let s = c .before .before .before .before .before .before .before .before .before .before .before in (
       s .pre .2,
+      s .pre .4,
       λ w b.
           let none = no-head-marks w b (sym (c .before .wide .ensures .0) ∙ c .if1 .taken) in
           (marked-none _ (s .pre .1) none, λ q h. absurd (none q h)),
@@ -39,25 +40,26 @@ same-length c = search needs
 same-length-2 : tie.Need-same-length-2
 same-length-2 c = search needs
 
+same-length-3 : tie.Need-same-length-3
+same-length-3 c = search needs
+
 returns-2 : tie.Need-returns-2
 returns-2 c =
-    let listed = c .before .before .before .before .before .list-answers .ensures in (
+    let listed = c .before .before .before .before .before .before .before .list-answers .ensures in (
       listed .0,
+      listed .2,
       λ w b.
-          let a = rw (c .before .before .before .before .before .before .before .before .before .wide .ensures .0) at (listed .2 w b) in
-          let none : (q : ℕ) → HeadMark (w .p) (c .before .before .before .before .before .before .before .before .before .before .before .before .before .before .before .before .before .before .args .table .now) (c .before .before .before .before .before .before .before .before .before .before .before .before .before .before .before .before .before .before .args .since) (c .before .before .before .before .before .before .before .before .before .before .before .before .before .before .before .before .before .before .args .before) (b .k) (suc (b .i)) q → ⊥ =
+          let a = rw (c .before .before .before .before .before .before .before .before .before .before .before .before .wide .ensures .0) at (listed .3 w b) in
+          let none : (q : ℕ) → HeadMark (w .p) (c .before .before .before .before .before .before .before .before .before .before .before .before .before .before .before .before .before .before .before .before .before .before .args .table .now) (c .before .before .before .before .before .before .before .before .before .before .before .before .before .before .before .before .before .before .before .before .before .before .args .since) (c .before .before .before .before .before .before .before .before .before .before .before .before .before .before .before .before .before .before .before .before .before .before .args .before) (b .k) (suc (b .i)) q → ⊥ =
           λ q h. no-answer w b _ _ _ (listed .1) a (c .if2 .taken) (h .N) (h .reached) in
-          (marked-none _ (c .before .before .before .before .before .before .before .before .before .before .before .before .before .before .before .before .before .before .pre .1) none, λ q h. absurd (none q h)),
+          (marked-none _ (c .before .before .before .before .before .before .before .before .before .before .before .before .before .before .before .before .before .before .before .before .before .before .pre .1) none, λ q h. absurd (none q h)),
     )
 
 mark-conts-requires : tie.Need-mark-conts-requires
 mark-conts-requires c κs =
-    let s = c .before .before .before .before .before .before .before .before .before .before .before .before .before .before .before .before .before .before .before .before in
+    let s = c .before .before .before .before .before .before .before .before .before .before .before .before .before .before .before .before .before .before .before .before .before .before .before .before in
     let m = s .pre .0 in
-    (rw (c .before .before .before .before .before .before .before .before .before .before .before .wide .ensures .0) (conts-there (m .situation) (m .body) _ _ _ (c .before .before .before .before .before .before .before .list-answers .ensures .1)), s .pre .1)
-
-same-length-3 : tie.Need-same-length-3
-same-length-3 c = search needs
+    (rw (c .before .before .before .before .before .before .before .before .before .before .before .before .before .before .wide .ensures .0) (conts-there (m .situation) (m .body) _ _ _ (c .before .before .before .before .before .before .before .before .before .list-answers .ensures .1)), s .pre .1)
 
 same-length-4 : tie.Need-same-length-4
 same-length-4 c = search needs
@@ -65,14 +67,21 @@ same-length-4 c = search needs
 same-length-5 : tie.Need-same-length-5
 same-length-5 c = search needs
 
+same-length-6 : tie.Need-same-length-6
+same-length-6 c = search needs
+
+same-length-7 : tie.Need-same-length-7
+same-length-7 c = search needs
+
 returns-3 : tie.Need-returns-3
 returns-3 c =
-    let s = c .before .before .before .before .before .before .before .before .before .before .before .before .before .before .before .before .before .before .before .before .before .before .before in
-    let listed = c .before .before .before .before .before .before .before .before .before .before .list-answers .ensures in
-    let newest = c .before .before .before .before .before .before .before .before .before .before .before .before .before .before .wide .ensures .0 in (
+    let s = c .before .before .before .before .before .before .before .before .before .before .before .before .before .before .before .before .before .before .before .before .before .before .before .before .before .before .before in
+    let listed = c .before .before .before .before .before .before .before .before .before .before .before .before .list-answers .ensures in
+    let newest = c .before .before .before .before .before .before .before .before .before .before .before .before .before .before .before .before .before .wide .ensures .0 in (
       listed .0,
+      listed .2,
       λ w b.
-          let a = rw newest at (listed .2 w b) in
+          let a = rw newest at (listed .3 w b) in
           let marked = (rw newest at (c .before .before .mark-conts .ensures)) (conts-there w b _ _ _ (listed .1)) in
           (head-marked w b _ _ _ (listed .1) a _ _ _ (s .pre .0) marked, λ q h. tt),
     )
@@ -89,9 +98,11 @@ last-place-spec =
     list-answers-requires
     same-length
     same-length-2
+    same-length-3
     returns-2
     mark-conts-requires
-    same-length-3
     same-length-4
     same-length-5
+    same-length-6
+    same-length-7
     returns-3)

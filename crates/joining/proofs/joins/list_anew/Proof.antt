@@ -1,11 +1,11 @@
--- `list_answers` meets its contract: the fresh answers are of the rows from `since` on, and behind them stand those of the older rows.
+-- `list_anew` meets its contract: the fresh answers are of the rows from `since` on, and behind them stand those of the older rows.
 -- Assumes nothing.
 use native.Mathlib.Omega.{arith}
 use borrow.Author.Needs.{needs}
 use mathlib.Core.Logic.{⊎-elim}
 use Rattle.joining.proofs.PlaceAnswers.{listing-none, answered}
-use Rattle.joining.proofs.joins.list_answers.Statement.{statement}
-use Rattle.joining.proofs.joins.list_answers.Tie as tie
+use Rattle.joining.proofs.joins.list_anew.Statement.{statement}
+use Rattle.joining.proofs.joins.list_anew.Tie as tie
 
 answers-to-requires : tie.Need-answers-to-requires
 answers-to-requires c κs =
@@ -41,12 +41,13 @@ returns c =
     let found = settled .settle .ensures in (
       c .before .before .forget .ensures,
       record { few = found .more; most = omega (arith, found .listing .within, found .listing .list-size) },
-      λ w b. answered (w .p) _ (b .A) _ _ _ _ (w .chains .new) (λ l. ⊎-elim (λ v. v .1) (λ v. absurd (omega (arith, v .0 .left))) (to .before .before .before .if1 .came))
-          (to .answers-to .ensures w b) found,
+      λ w b. answered (w .p) _ (b .A) _ _ _ (to .answers-to .ensures w b) found (w .chains .new)
+          (⊎-elim (λ v. omega (arith, v .1)) (λ v. omega (arith, v .1)) (to .before .before .before .if1 .came)) _
+          (λ l. ⊎-elim (λ v. v .1) (λ v. absurd (omega (arith, v .0 .left))) (to .before .before .before .if1 .came)),
     )
 
-pub list-answers-spec : {M : Type 1} → statement M
-list-answers-spec =
+pub list-anew-spec : {M : Type 1} → statement M
+list-anew-spec =
     tie.close
     (tie.spec
     answers-to-requires

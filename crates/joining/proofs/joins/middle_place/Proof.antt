@@ -11,21 +11,21 @@ use Rattle.joining.proofs.joins.middle_place.Statement.{statement}
 use Rattle.joining.proofs.joins.middle_place.Tie as tie
 
 add-wide : tie.Need-add-wide
-add-wide c = let m = c .before .before .before .before .before .before .before .pre .0 in omega (arith, slot-there (m .situation) (m .body) .1)
+add-wide c = let m = c .before .before .before .before .before .before .before .before .pre .0 in omega (arith, slot-there (m .situation) (m .body) .1)
 
 mul-wide : tie.Need-mul-wide
-mul-wide c = let m = c .before .before .before .before .before .before .before .pre .0 in omega (arith, slot-there (m .situation) (m .body) .1)
+mul-wide c = let m = c .before .before .before .before .before .before .before .before .pre .0 in omega (arith, slot-there (m .situation) (m .body) .1)
 
 shared-slice-read-wide : tie.Need-shared-slice-read-wide
-shared-slice-read-wide c = let m = c .before .before .before .before .before .before .before .before .pre .0 in slot-there (m .situation) (m .body) .0
+shared-slice-read-wide c = let m = c .before .before .before .before .before .before .before .before .before .pre .0 in slot-there (m .situation) (m .body) .0
 
 wide-requires : tie.Need-wide-requires
 wide-requires c κs = search needs
 
 returns : tie.Need-returns
 returns c =
-    let s = c .before .before .before .before .before .before .before .before .before .before in
-    (s .pre .3, λ w b. no-next-rows w b _ _ _ _ (s .pre .1) (sym (c .before .wide .ensures .0) ∙ c .if1 .taken))
+    let s = c .before .before .before .before .before .before .before .before .before .before .before in
+    (s .pre .3, s .pre .5, λ w b. no-next-rows w b _ _ _ _ (s .pre .1) (sym (c .before .wide .ensures .0) ∙ c .if1 .taken))
 
 list-answers-requires : tie.Need-list-answers-requires
 list-answers-requires c κs = search needs
@@ -39,37 +39,41 @@ same-length-2 c = search needs
 same-length-3 : tie.Need-same-length-3
 same-length-3 c = search needs
 
+same-length-4 : tie.Need-same-length-4
+same-length-4 c = search needs
+
 returns-2 : tie.Need-returns-2
 returns-2 c =
-    let s = c .before .before .before .before .before .before .before .before .before .before .before .before .before .before .before .before .before .before .before in
-    let listed = c .before .before .before .before .before .list-answers .ensures in (
+    let s = c .before .before .before .before .before .before .before .before .before .before .before .before .before .before .before .before .before .before .before .before .before .before .before in
+    let listed = c .before .before .before .before .before .before .before .list-answers .ensures in (
       listed .0,
-      λ w b. no-answers w b _ _ _ _ (s .pre .1) _ _ _ (listed .1) (rw (c .before .before .before .before .before .before .before .before .before .before .wide .ensures .0) at (listed .2 w b)) (c .if2 .taken),
+      listed .2,
+      λ w b. no-answers w b _ _ _ _ (s .pre .1) _ _ _ (listed .1) (rw (c .before .before .before .before .before .before .before .before .before .before .before .before .before .wide .ensures .0) at (listed .3 w b)) (c .if2 .taken),
     )
 
 add-next : tie.Need-add-next
-add-next c = let m = c .before .before .before .before .before .before .before .before .before .before .before .before .before .before .before .before .before .before .before .pre .0 in let few = next-few (m .situation) (m .body) m in omega (arith, few .0, few .1)
+add-next c = let m = c .before .before .before .before .before .before .before .before .before .before .before .before .before .before .before .before .before .before .before .before .before .before .before .pre .0 in let few = next-few (m .situation) (m .body) m in omega (arith, few .0, few .1)
 
 add-wide-2 : tie.Need-add-wide-2
-add-wide-2 c = let m = c .before .before .before .before .before .before .before .before .before .before .before .before .before .before .before .before .before .before .before .pre .0 in let few = next-few (m .situation) (m .body) m in omega (arith, few .0, few .1)
+add-wide-2 c = let m = c .before .before .before .before .before .before .before .before .before .before .before .before .before .before .before .before .before .before .before .before .before .before .before .pre .0 in let few = next-few (m .situation) (m .body) m in omega (arith, few .0, few .1)
 
 mul-wide-2 : tie.Need-mul-wide-2
-mul-wide-2 c = let m = c .before .before .before .before .before .before .before .before .before .before .before .before .before .before .before .before .before .before .before .pre .0 in let few = next-few (m .situation) (m .body) m in omega (arith, few .0, few .1)
+mul-wide-2 c = let m = c .before .before .before .before .before .before .before .before .before .before .before .before .before .before .before .before .before .before .before .before .before .before .before .pre .0 in let few = next-few (m .situation) (m .body) m in omega (arith, few .0, few .1)
 
 shared-slice-read-wide-2 : tie.Need-shared-slice-read-wide-2
-shared-slice-read-wide-2 c = let m = c .before .before .before .before .before .before .before .before .before .before .before .before .before .before .before .before .before .before .before .before .pre .0 in let few = next-few (m .situation) (m .body) m in omega (arith, few .0, few .1)
+shared-slice-read-wide-2 c = let m = c .before .before .before .before .before .before .before .before .before .before .before .before .before .before .before .before .before .before .before .before .before .before .before .before .pre .0 in let few = next-few (m .situation) (m .body) m in omega (arith, few .0, few .1)
 
 wide-requires-2 : tie.Need-wide-requires-2
 wide-requires-2 c κs = search needs
 
 add-wide-3 : tie.Need-add-wide-3
-add-wide-3 c = let m = c .before .before .before .before .before .before .before .before .before .before .before .before .before .before .before .before .before .before .before .before .before .pre .0 in let few = next-few (m .situation) (m .body) m in omega (arith, few .0, few .1)
+add-wide-3 c = let m = c .before .before .before .before .before .before .before .before .before .before .before .before .before .before .before .before .before .before .before .before .before .before .before .before .before .pre .0 in let few = next-few (m .situation) (m .body) m in omega (arith, few .0, few .1)
 
 mul-wide-3 : tie.Need-mul-wide-3
-mul-wide-3 c = let m = c .before .before .before .before .before .before .before .before .before .before .before .before .before .before .before .before .before .before .before .before .before .pre .0 in let few = next-few (m .situation) (m .body) m in omega (arith, few .0, few .1)
+mul-wide-3 c = let m = c .before .before .before .before .before .before .before .before .before .before .before .before .before .before .before .before .before .before .before .before .before .before .before .before .before .pre .0 in let few = next-few (m .situation) (m .body) m in omega (arith, few .0, few .1)
 
 shared-slice-read-wide-3 : tie.Need-shared-slice-read-wide-3
-shared-slice-read-wide-3 c = let m = c .before .before .before .before .before .before .before .before .before .before .before .before .before .before .before .before .before .before .before .before .before .before .pre .0 in let few = next-few (m .situation) (m .body) m in omega (arith, few .0, few .1)
+shared-slice-read-wide-3 c = let m = c .before .before .before .before .before .before .before .before .before .before .before .before .before .before .before .before .before .before .before .before .before .before .before .before .before .before .pre .0 in let few = next-few (m .situation) (m .body) m in omega (arith, few .0, few .1)
 
 wide-requires-3 : tie.Need-wide-requires-3
 wide-requires-3 c κs = search needs
@@ -87,21 +91,21 @@ part-order-of-start : tie.Need-part-order-of-start
 part-order-of-start c = search needs
 
 part-order-of-end : tie.Need-part-order-of-end
-part-order-of-end c = let m = c .before .before .before .before .before .before .before .before .before .before .before .before .before .before .before .before .before .before .before .before .before .before .before .pre .0 in next-run (m .situation) (m .body) m _ _ (c .before .before .wide2 .ensures .0) (c .wide3 .ensures .0) .1
+part-order-of-end c = let m = c .before .before .before .before .before .before .before .before .before .before .before .before .before .before .before .before .before .before .before .before .before .before .before .before .before .before .before .pre .0 in next-run (m .situation) (m .body) m _ _ (c .before .before .wide2 .ensures .0) (c .wide3 .ensures .0) .1
 
 order-of-requires : tie.Need-order-of-requires
 order-of-requires c κs =
-    let m = c .before .before .before .before .before .before .before .before .before .before .before .before .before .before .before .before .before .before .before .before .before .before .before .before .before .pre .0 in
+    let m = c .before .before .before .before .before .before .before .before .before .before .before .before .before .before .before .before .before .before .before .before .before .before .before .before .before .before .before .before .before .pre .0 in
     (record { A = m .next; atom-run = next-run (m .situation) (m .body) m _ _ (c .before .before .before .before .wide2 .ensures .0) (c .before .before .wide3 .ensures .0) .0 }, refl)
 
 emit-conts-requires : tie.Need-emit-conts-requires
 emit-conts-requires c κs =
-    let s = c .before .before .before .before .before .before .before .before .before .before .before .before .before .before .before .before .before .before .before .before .before .before .before .before .before .before .before .before .before .before .before in
+    let s = c .before .before .before .before .before .before .before .before .before .before .before .before .before .before .before .before .before .before .before .before .before .before .before .before .before .before .before .before .before .before .before .before .before .before .before in
     let m = s .pre .0 in
-    let listed = c .before .before .before .before .before .before .before .before .before .before .before .before .before .before .before .before .before .list-answers .ensures in
-    let newest = c .before .before .before .before .before .before .before .before .before .before .before .before .before .before .before .before .before .before .before .before .before .before .wide .ensures .0 in
+    let listed = c .before .before .before .before .before .before .before .before .before .before .before .before .before .before .before .before .before .before .before .list-answers .ensures in
+    let newest = c .before .before .before .before .before .before .before .before .before .before .before .before .before .before .before .before .before .before .before .before .before .before .before .before .before .wide .ensures .0 in
     let run = next-run (m .situation) (m .body) m _ _ (c .before .before .before .before .before .before .before .before .before .before .wide2 .ensures .0) (c .before .before .before .before .before .before .before .before .wide3 .ensures .0) .0 in
-    let a = rw newest at (listed .2 (m .situation) (m .body)) in (
+    let a = rw newest at (listed .3 (m .situation) (m .body)) in (
       rw newest (conts-asked (m .situation) (m .body) (s .args .at .number) (s .args .at .room) _ _ (s .pre .1) _ _ _ (listed .1) a m _ _ (c .before .before .before .before .before .order-of .ensures .1 (m .next) run)),
       s .pre .1,
       s .pre .2,
@@ -110,9 +114,6 @@ emit-conts-requires c κs =
 
 zero-requires : tie.Need-zero-requires
 zero-requires c κs = search needs
-
-same-length-4 : tie.Need-same-length-4
-same-length-4 c = search needs
 
 same-length-5 : tie.Need-same-length-5
 same-length-5 c = search needs
@@ -123,16 +124,23 @@ same-length-6 c = search needs
 same-length-7 : tie.Need-same-length-7
 same-length-7 c = search needs
 
+same-length-8 : tie.Need-same-length-8
+same-length-8 c = search needs
+
+same-length-9 : tie.Need-same-length-9
+same-length-9 c = search needs
+
 returns-3 : tie.Need-returns-3
 returns-3 c =
-    let s = c .before .before .before .before .before .before .before .before .before .before .before .before .before .before .before .before .before .before .before .before .before .before .before .before .before .before .before .before .before .before .before .before .before .before .before .before .before .before .before .before .before .before in
+    let s = c .before .before .before .before .before .before .before .before .before .before .before .before .before .before .before .before .before .before .before .before .before .before .before .before .before .before .before .before .before .before .before .before .before .before .before .before .before .before .before .before .before .before .before .before .before .before in
     let m = s .pre .0 in
-    let listed = c .before .before .before .before .before .before .before .before .before .before .before .before .before .before .before .before .before .before .before .before .before .before .before .before .before .before .before .before .list-answers .ensures in
-    let newest = c .before .before .before .before .before .before .before .before .before .before .before .before .before .before .before .before .before .before .before .before .before .before .before .before .before .before .before .before .before .before .before .before .before .wide .ensures .0 in (
+    let listed = c .before .before .before .before .before .before .before .before .before .before .before .before .before .before .before .before .before .before .before .before .before .before .before .before .before .before .before .before .before .before .list-answers .ensures in
+    let newest = c .before .before .before .before .before .before .before .before .before .before .before .before .before .before .before .before .before .before .before .before .before .before .before .before .before .before .before .before .before .before .before .before .before .before .before .before .wide .ensures .0 in (
       c .before .before .zero .ensures ∙ ap (λ (k : ℕ). replicate {A = ℕ} k 0) (c .before .before .before .before .before .before .before .before .before .before .emit-conts .kept .1 .1 .1 .1 .1 .1 .1 .1 .1 .1 .1 .1 .0 ∙ ap length (listed .0) ∙ length-replicate {A = ℕ} setWords 0),
+      listed .2,
       λ w b.
           let run = next-run w b m _ _ (c .before .before .before .before .before .before .before .before .before .before .before .before .before .before .before .before .before .before .before .before .before .wide2 .ensures .0) (c .before .before .before .before .before .before .before .before .before .before .before .before .before .before .before .before .before .before .before .wide3 .ensures .0) .0 in
-          let a = rw newest at (listed .2 w b) in
+          let a = rw newest at (listed .3 w b) in
           let o = c .before .before .before .before .before .before .before .before .before .before .before .before .before .before .before .before .order-of .ensures .1 (m .next) run in
           let asked = conts-asked w b (s .args .at .number) (s .args .at .room) _ _ (s .pre .1) _ _ _ (listed .1) a m _ _ o in
           next-rows w b _ _ _ _ (s .pre .1) _ _ _ (listed .1) a m _ _ o _ _ _ ((rw newest at (c .before .before .before .before .before .before .before .before .before .before .emit-conts .ensures)) asked),
@@ -151,6 +159,7 @@ middle-place-spec =
     same-length
     same-length-2
     same-length-3
+    same-length-4
     returns-2
     add-next
     add-wide-2
@@ -169,8 +178,9 @@ middle-place-spec =
     order-of-requires
     emit-conts-requires
     zero-requires
-    same-length-4
     same-length-5
     same-length-6
     same-length-7
+    same-length-8
+    same-length-9
     returns-3)

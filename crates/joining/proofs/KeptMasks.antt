@@ -1,0 +1,157 @@
+-- Answers in their atom's own numbering: put into the set of the atom, and listed from it. There is room for all, since the atom has few masks.
+use Prim.Native.Nat.{ℕ, _+_, _*_, _/_, _%_, _^_, _≤_, _<_}
+use native.Mathlib.Omega.{arith}
+use native.Mathlib.Numerals.{add-one}
+use native.Mathlib.Decide.{ℕ-discrete}
+use mathlib.Core.Path.{_≡_, refl, sym, ap, subst, _∙_}
+use mathlib.Core.Bool.{true, false}
+use mathlib.Core.Logic.{_⊎_, inl, inr, ⊎-elim, _↔_}
+use mathlib.Core.List.{List, [], _∷_, _++_, map, List·Memᴰ, List·Memᴰ·head, List·Memᴰ·not-nil, List·Memᴰ·append-cases, List·Memᴰ·eq-of-singleton, Memᴰ·append-left, Memᴰ·append-right}
+use lib.ListN.{length, take, getD, set, length-set, length-map}
+use lib.Seq.{take-suc, length-take-le, getD-set-other}
+use lib.Pow.{pow-mono}
+use lib.Bits.{bitOr}
+use Rattle.terms.specs.Term.{Term, Occ}
+use Rattle.terms.specs.Cells.{variables}
+use Rattle.terms.specs.Mask.{Has}
+use Rattle.terms.proofs.Masks.{same-marks, marks-below, marks-unique}
+use Rattle.marks.specs.Modes.{Renumbered, Reordered, Restored}
+use Rattle.marks.proofs.Modes.{renumberedOf, renumberedOf-renumbered}
+use Rattle.marks.proofs.RowMasks.{renumbered-restored}
+use Rattle.program.specs.Shapes.{number}
+use Rattle.rows.specs.Rows.{masks}
+use Rattle.rows.specs.MaskSet.{InSet, Inserted}
+use Rattle.rows.proofs.MaskSets.{bit-put}
+use Rattle.table.specs.Table.{Distinct}
+use Rattle.table.proofs.Distinct.{distinct-map}
+use Rattle.table.proofs.Lists.{has-map}
+use Rattle.joining.specs.Answers.{Found}
+use Rattle.joining.specs.KeptAnswers.{answerAtoms, answerMasks, answerRows, answerWords, NotedIn, Gained, Ordered, Recalled, Own, FewVars, RecallAsked}
+use Rattle.joining.proofs.AnswerLists.{distinct-below, found-none, found-for, found-there, found-new}
+
+module _ {A : Term} {order : List ℕ} {count j : ℕ} (k : FewVars A order count j) where
+  pub order-small : (count ≤ variables) × ((x : ℕ) → x < count → getD order x 0 < variables)
+  order-small = (omega (arith, k .few), λ x l. k .variables-few (getD order x 0) (k .in-order .present x l .0))
+
+  pub few-masks : 2 ^ count ≤ answerMasks
+  few-masks = pow-mono {j = 8} (k .few)
+
+  pub reordered-below : (N q : ℕ) → Reordered order count N q → q < 2 ^ count
+  reordered-below N q r = marks-below count q (λ v h. r v .0 h .0)
+
+  pub renumbered-below : (N q : ℕ) → Renumbered A (number A) N q → q < 2 ^ count
+  renumbered-below N q r = marks-below count q (λ v h. let m = r v .0 h in subst (λ (x : ℕ). x < count) (m .2) (k .in-order .placed (m .0) (m .1) .0))
+
+  pub restored-below : (N q : ℕ) → Restored order count q N → N < masks
+  restored-below N q r = marks-below 16 N (λ v h. let m = r v .0 h in subst (λ (x : ℕ). x < 16) (m .2) (order-small .1 (m .0) (m .1)))
+
+  pub restored-own : (N q : ℕ) → Restored order count q N → Own A N
+  restored-own N q r v h = let m = r v .0 h in subst (λ (x : ℕ). Occ x A) (m .2) (k .in-order .present (m .0) (m .1) .0)
+
+  -- no two answers have one mask
+  one-answer : (N N′ q : ℕ) → Own A N → Own A N′ → Renumbered A (number A) N q → Renumbered A (number A) N′ q → N ≡ N′
+  one-answer N N′ q own own′ r r′ =
+      marks-unique (λ v. (x : ℕ) × (x < count) × (getD order x 0 ≡ v) × Has q x) N N′
+      (renumbered-restored order count N q (k .in-order) own r) (renumbered-restored order count N′ q (k .in-order) own′ r′)
+
+  -- distinct answers are no more than the masks of the atom
+  pub own-few : (l : List ℕ) → Distinct l → ((N : ℕ) → List·Memᴰ N l → Own A N) → length l ≤ answerMasks
+  own-few l d own =
+      let b = distinct-below (map (renumberedOf A (number A)) l) answerMasks
+      (distinct-map (renumberedOf A (number A)) l d
+      (λ N N′ m m′ e. one-answer N N′ (renumberedOf A (number A) N) (own N m) (own N′ m′) (renumberedOf-renumbered A (number A) N)
+      (subst (λ (x : ℕ). Renumbered A (number A) N′ x) (sym e) (renumberedOf-renumbered A (number A) N′))))
+      (λ q m.
+      let (N, mN, e) = has-map (renumberedOf A (number A)) l m in
+      let small = renumbered-below N (renumberedOf A (number A) N) (renumberedOf-renumbered A (number A) N) in
+      omega (arith, few-masks, e)) in
+      omega (arith, length-map l (renumberedOf A (number A)))
+
+  -- answers put into the set
+  pub noted-none : (answers noted : List ℕ) → Gained (Ordered order count answers 0) j noted noted
+  noted-none answers noted =
+      record { size = refl; members = λ x. (inl, ⊎-elim (λ h. h) (λ g. absurd (List·Memᴰ·not-nil (g .2 .1)))); others = λ i l. refl }
+
+  module _ (answers noted₀ noted : List ℕ) (i M : ℕ) (size : length noted₀ ≡ answerWords) (less : i < length answers) (r : Reordered order count (getD answers i 0) M)
+      (g : Gained (Ordered order count answers i) j noted₀ noted) where
+    abbrev bit : ℕ
+    bit = answerMasks * j + M
+
+    small : M < answerMasks
+    small = omega (arith, few-masks, reordered-below (getD answers i 0) M r)
+
+    pub word-there : bit / 16 < answerRows
+    word-there = omega (arith, small, k .near)
+
+    one-more : (q : ℕ) → (Ordered order count answers i q ⊎ (q ≡ M)) ↔ Ordered order count answers (i + 1) q
+    one-more q = (
+      ⊎-elim
+          (λ o. (o .0, subst (List·Memᴰ (o .0)) (sym parts) (Memᴰ·append-left _ (o .1)), o .2))
+          (λ e. (getD answers i 0, subst (List·Memᴰ (getD answers i 0)) (sym parts) (Memᴰ·append-right (take i answers) (List·Memᴰ·head refl)), rw e r)),
+      λ o. ⊎-elim
+          (λ m. inl (o .0, m, o .2))
+          (λ m. inr (marks-unique (λ x. (x < count) × Has (getD answers i 0) (getD order x 0)) q M (subst (λ (x : ℕ). Reordered order count x q) (List·Memᴰ·eq-of-singleton m) (o .2)) r))
+          (List·Memᴰ·append-cases (take i answers) (subst (List·Memᴰ (o .0)) parts (o .1))),
+    )
+      where
+        parts : take (i + 1) answers ≡ take i answers ++ (getD answers i 0 ∷ [])
+        parts = rw add-one (take-suc answers i 0 less)
+
+    pub noted-one : Gained (Ordered order count answers (i + 1)) j noted₀ (set noted (bit / 16) (bitOr (getD noted (bit / 16) 0) (2 ^ (bit % 16))))
+    noted-one =
+        record {
+          size = length-set noted (bit / 16) (bitOr (getD noted (bit / 16) 0) (2 ^ (bit % 16))) ∙ g .size;
+          members = λ x. (
+            λ h. ⊎-elim
+                (λ o. ⊎-elim inl (λ n. inr (n .0, n .1, one-more (n .0) .0 (inl (n .2)), n .3)) (g .members x .0 o))
+                (λ e. inr (M, small, one-more M .0 (inr refl), e))
+                (put x .0 h),
+            ⊎-elim
+                (λ o. put x .1 (inl (g .members x .1 (inl o))))
+                (λ n. ⊎-elim
+                (λ o. put x .1 (inl (g .members x .1 (inr (n .0, n .1, o, n .3)))))
+                (λ e. put x .1 (inr (n .3 ∙ ap (λ (y : ℕ). answerMasks * j + y) e)))
+                (one-more (n .0) .1 (n .2))),
+          );
+          others = λ y l. getD-set-other noted (bit / 16) y (bitOr (getD noted (bit / 16) 0) (2 ^ (bit % 16))) 0 (λ e. omega (arith, word-there)) ∙ g .others y l;
+        }
+      where
+        put : (x : ℕ) → InSet (set noted (bit / 16) (bitOr (getD noted (bit / 16) 0) (2 ^ (bit % 16)))) x ↔ (InSet noted x ⊎ (x ≡ bit))
+        put = bit-put noted bit (omega (arith, word-there, g .size, size))
+
+-- answers listed from the set
+module _ {order seen₀ answers₀ noted : List ℕ} {count upto j : ℕ} (w : RecallAsked order seen₀ answers₀ noted count upto j) where
+  pub recall-none : Found (Recalled order count noted j 0) seen₀ answers₀ upto upto answers₀
+  recall-none = found-none (w .listing) refl (λ N r. omega (arith, r .1))
+
+  module _ {seen answers : List ℕ} {all q : ℕ} (f : Found (Recalled order count noted j q) seen answers upto all answers₀) where
+    -- each mask of the atom has one answer at most, so there is room
+    pub recall-room : all ≤ answerMasks
+    recall-room =
+        let l = own-few (w .kept) (take all answers) (f .listing .distinct)
+        (λ N m. ⊎-elim (w .own N) (λ r. restored-own (w .kept) N (r .0) (r .3)) (f .members N .0 m)) in
+        omega (arith, length-take-le all answers (omega (arith, f .listing .within, f .listing .list-size)))
+
+    pub recall-not : (NotedIn noted j q → ⊥) → Found (Recalled order count noted j (q + 1)) seen answers upto all answers₀
+    recall-not n = found-for (λ N. (λ r. (r .0, omega (arith, r .1), r .2, r .3), λ r. at N (r .0) (r .1) (r .2) (r .3) (ℕ-discrete (r .0) q))) f
+      where
+        at : (N x : ℕ) → x < q + 1 → NotedIn noted j x → Restored order count x N → Dec (x ≡ q) → Recalled order count noted j q N
+        at N x l h r (yes e) = absurd (n (subst (NotedIn noted j) e h))
+        at N x l h r (no o) = (x, omega arith, h, r)
+
+    module _ (h : NotedIn noted j q) {m : ℕ} (r : Restored order count q m) where
+      one : (N : ℕ) → (Recalled order count noted j q N ⊎ (N ≡ m)) ↔ Recalled order count noted j (q + 1) N
+      one N = (
+        ⊎-elim (λ o. (o .0, omega (arith, o .1), o .2, o .3)) (λ e. (q, omega arith, h, subst (Restored order count q) (sym e) r)),
+        λ o. at (o .0) (o .1) (o .2) (o .3) (ℕ-discrete (o .0) q),
+      )
+        where
+          at : (x : ℕ) → x < q + 1 → NotedIn noted j x → Restored order count x N → Dec (x ≡ q) → Recalled order count noted j q N ⊎ (N ≡ m)
+          at x l i s (yes e) = inr (marks-unique (λ v. (y : ℕ) × (y < count) × (getD order y 0 ≡ v) × Has q y) N m (subst (λ (y : ℕ). Restored order count y N) e s) r)
+          at x l i s (no o) = inl (x, omega arith, i, s)
+
+      pub recall-there : {seen′ : List ℕ} → length seen′ ≡ length seen → Inserted seen seen′ m false → Found (Recalled order count noted j (q + 1)) seen′ answers upto all answers₀
+      recall-there size t = found-for one (found-there f (restored-below (w .kept) m q r) size t)
+
+      pub recall-new : {seen′ : List ℕ} → length seen′ ≡ length seen → Inserted seen seen′ m true → Found (Recalled order count noted j (q + 1)) seen′ (set answers all m) upto (all + 1) answers₀
+      recall-new size t = found-for one (found-new f (restored-below (w .kept) m q r) size (omega (arith, recall-room)) t)
