@@ -10,6 +10,7 @@ ghost use lib.ListN.{length, replicate};
 ghost use Rattle.rows.specs.MaskSet.{setWords};
 ghost use Rattle.steps.specs.Situation.{HeadAsked};
 ghost use Rattle.steps.specs.Heads.{HeadMark, Marked, Told};
+ghost use Rattle.joining.specs.KeptAnswers.{KeepsAnswers};
 
 // Marks on the head of clause k that result from rows since `since`. Says whether there are any.
 pub fn head_marks<'a>(
@@ -23,10 +24,12 @@ pub fn head_marks<'a>(
     before: usize,
     k: usize,
     found: &mut [u16],
+    noted: &mut [u16],
 ) -> bool
     requires { ⌜ HeadAsked (now words) (now dir) (now table) (now heads) since before k × (length (now found) ≡ setWords)
-        × (now seen ≡ replicate setWords 0) × (length (now answers) ≡ 4096) ⌝ }
+        × (now seen ≡ replicate setWords 0) × (length (now answers) ≡ 4096) × KeepsAnswers (now words) (now dir) (now table) (now noted) before ⌝ }
     ensures { λ r. ⌜ (now (seen .exit) ≡ replicate setWords 0)
+        × KeepsAnswers (now (words .entry)) (now (dir .entry)) (now (table .entry)) (now (noted .exit)) before
         × ((w : HeadAsked (now (words .entry)) (now (dir .entry)) (now (table .entry)) (now (heads .entry)) since before k)
         → Marked (HeadMark (w .situation .p) (now (table .entry)) since before k (length (w .clause .c .body))) (now (found .entry)) (now (found .exit))
         × Told (HeadMark (w .situation .p) (now (table .entry)) since before k (length (w .clause .c .body))) r) ⌝ }
@@ -44,6 +47,7 @@ pub fn head_marks<'a>(
         heads,
         seen,
         answers,
+        noted,
         since,
         before,
         end - 1,
