@@ -17,6 +17,7 @@ ghost use Rattle.steps.specs.Steps.{RowsIn, Writable, Stepped};
 ghost use Rattle.ends.specs.Ends.{Scratch};
 ghost use Rattle.clauses.specs.Clauses.{MiddlesAsked, PastPlaces};
 ghost use Rattle.ends.specs.Keeping.{Keeps};
+ghost use Rattle.joining.specs.KeptAnswers.{KeepsAnswers};
 
 // The middle places of a clause, whose body atoms are first..last.
 fn middle_places<'a>(
@@ -27,17 +28,19 @@ fn middle_places<'a>(
     heads: &[u16],
     seen: &mut [u16],
     answers: &mut [u16],
+    noted: &mut [u16],
     n: usize,
     at: Round,
     first: usize,
     last: usize,
 ) -> usize
     requires { ⌜ MiddlesAsked (now words) (now dir) (now table) (now heads) (at .since) (at .rows) first last × Writable (now table) (now buckets) n (at .room) × (at .rows ≤ n)
-        × (now seen ≡ replicate setWords 0) × (length (now answers) ≡ 4096) ⌝ }
+        × (now seen ≡ replicate setWords 0) × (length (now answers) ≡ 4096) × KeepsAnswers (now words) (now dir) (now table) (now noted) (at .rows) ⌝ }
     ensures { λ r. ⌜ (now (seen .exit) ≡ replicate setWords 0)
         × ((w : MiddlesAsked (now (words .entry)) (now (dir .entry)) (now (table .entry)) (now (heads .entry)) (at .since) (at .rows) first last)
         → Stepped (w .situation .p) (keysOf (now (table .entry)) (at .rows)) (at .number) (at .room) n (now (table .entry)) (now (buckets .entry))
-        (PastPlaces (w .situation .p) (keysOf (now (table .entry)) (at .since)) (keysOf (now (table .entry)) (at .rows)) (w .k) (w .middles)) r (now (table .exit)) (now (buckets .exit))) ⌝ }
+        (PastPlaces (w .situation .p) (keysOf (now (table .entry)) (at .since)) (keysOf (now (table .entry)) (at .rows)) (w .k) (w .middles)) r (now (table .exit)) (now (buckets .exit)))
+        × (r ≤ at .room → KeepsAnswers (now (words .entry)) (now (dir .entry)) (now (table .exit)) (now (noted .exit)) (at .rows)) ⌝ }
 {
     let room = at.room;
     let mut rows = n;
@@ -51,6 +54,7 @@ fn middle_places<'a>(
             heads,
             seen,
             answers,
+            noted,
             rows,
             at,
             j,
@@ -74,17 +78,20 @@ pub fn clause<'a>(
     answers: &mut [u16],
     found: &mut [u16],
     kept: &mut [u16],
+    noted: &mut [u16],
     n: usize,
     at: Round,
     k: usize,
 ) -> usize
     requires { ⌜ HeadAsked (now words) (now dir) (now table) (now heads) (at .since) (at .rows) k × Writable (now table) (now buckets) n (at .room) × (at .rows ≤ n)
-        × Scratch (now seen) (now answers) (now found) × Keeps (now words) (now dir) (now table) (now kept) (at .rows) n ⌝ }
+        × Scratch (now seen) (now answers) (now found) × Keeps (now words) (now dir) (now table) (now kept) (at .rows) n
+        × KeepsAnswers (now words) (now dir) (now table) (now noted) (at .rows) ⌝ }
     ensures { λ r. ⌜ Scratch (now (seen .exit)) (now (answers .exit)) (now (found .exit))
         × ((w : HeadAsked (now (words .entry)) (now (dir .entry)) (now (table .entry)) (now (heads .entry)) (at .since) (at .rows) k)
         → Stepped (w .situation .p) (keysOf (now (table .entry)) (at .rows)) (at .number) (at .room) n (now (table .entry)) (now (buckets .entry))
         (Keyed (w .situation .p) (NewIn modes (w .situation .p) (RowsIn (w .situation .p) (keysOf (now (table .entry)) (at .since))) (RowsIn (w .situation .p) (keysOf (now (table .entry)) (at .rows))) k)) r (now (table .exit)) (now (buckets .exit)))
-        × (r ≤ at .room → Keeps (now (words .entry)) (now (dir .entry)) (now (table .exit)) (now (kept .exit)) (at .rows) r) ⌝ }
+        × (r ≤ at .room → Keeps (now (words .entry)) (now (dir .entry)) (now (table .exit)) (now (kept .exit)) (at .rows) r)
+        × (r ≤ at .room → KeepsAnswers (now (words .entry)) (now (dir .entry)) (now (table .exit)) (now (noted .exit)) (at .rows)) ⌝ }
 {
     let room = at.room;
     let first = wide(dir[CLAUSE_FIRST + k]);
@@ -99,6 +106,7 @@ pub fn clause<'a>(
             heads,
             seen,
             answers,
+            noted,
             rows,
             at,
             first,
@@ -118,6 +126,7 @@ pub fn clause<'a>(
         answers,
         found,
         kept,
+        noted,
         rows,
         at,
         k,

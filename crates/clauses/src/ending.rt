@@ -21,6 +21,7 @@ ghost use Rattle.steps.specs.Situation.{HeadAsked};
 ghost use Rattle.steps.specs.Steps.{Writable, Stepped};
 ghost use Rattle.ends.specs.Ends.{WithHead, Scratch};
 ghost use Rattle.ends.specs.Keeping.{keptVars, Keeps};
+ghost use Rattle.joining.specs.KeptAnswers.{KeepsAnswers};
 
 // A clause whose marks are kept: those that are kept go to the call rows that they have not gone to yet, and the new ones to all.
 fn end_kept<'a>(
@@ -33,18 +34,21 @@ fn end_kept<'a>(
     answers: &mut [u16],
     found: &mut [u16],
     kept: &mut [u16],
+    noted: &mut [u16],
     n: usize,
     at: Round,
     k: usize,
 ) -> usize
     requires { ⌜ HeadAsked (now words) (now dir) (now table) (now heads) (at .since) (at .rows) k × Writable (now table) (now buckets) n (at .room) × (at .rows ≤ n)
         × Scratch (now seen) (now answers) (now found) × Keeps (now words) (now dir) (now table) (now kept) (at .rows) n
+        × KeepsAnswers (now words) (now dir) (now table) (now noted) (at .rows)
         × (getD (now dir) (clauseVars + k) 0 ≤ keptVars) ⌝ }
     ensures { λ r. ⌜ Scratch (now (seen .exit)) (now (answers .exit)) (now (found .exit))
         × ((w : HeadAsked (now (words .entry)) (now (dir .entry)) (now (table .entry)) (now (heads .entry)) (at .since) (at .rows) k)
         → Stepped (w .situation .p) (keysOf (now (table .entry)) (at .rows)) (at .number) (at .room) n (now (table .entry)) (now (buckets .entry))
         (WithHead (w .situation .p) (keysOf (now (table .entry)) (at .since)) (keysOf (now (table .entry)) (at .rows)) k) r (now (table .exit)) (now (buckets .exit)))
-        × (r ≤ at .room → Keeps (now (words .entry)) (now (dir .entry)) (now (table .exit)) (now (kept .exit)) (at .rows) r) ⌝ }
+        × (r ≤ at .room → Keeps (now (words .entry)) (now (dir .entry)) (now (table .exit)) (now (kept .exit)) (at .rows) r)
+        × (r ≤ at .room → KeepsAnswers (now (words .entry)) (now (dir .entry)) (now (table .exit)) (now (noted .exit)) (at .rows)) ⌝ }
 {
     let before = at.rows;
     let all = 1usize << wide(dir[CLAUSE_VARS + k]);
@@ -63,6 +67,7 @@ fn end_kept<'a>(
         before,
         k,
         found,
+        noted,
     );
     let mut marks = 0;
     if new_marks(kept, k, found) {
@@ -108,16 +113,18 @@ fn end_wide<'a>(
     seen: &mut [u16],
     answers: &mut [u16],
     found: &mut [u16],
+    noted: &mut [u16],
     n: usize,
     at: Round,
     k: usize,
 ) -> usize
     requires { ⌜ HeadAsked (now words) (now dir) (now table) (now heads) (at .since) (at .rows) k × Writable (now table) (now buckets) n (at .room) × (at .rows ≤ n)
-        × Scratch (now seen) (now answers) (now found) ⌝ }
+        × Scratch (now seen) (now answers) (now found) × KeepsAnswers (now words) (now dir) (now table) (now noted) (at .rows) ⌝ }
     ensures { λ r. ⌜ Scratch (now (seen .exit)) (now (answers .exit)) (now (found .exit))
         × ((w : HeadAsked (now (words .entry)) (now (dir .entry)) (now (table .entry)) (now (heads .entry)) (at .since) (at .rows) k)
         → Stepped (w .situation .p) (keysOf (now (table .entry)) (at .rows)) (at .number) (at .room) n (now (table .entry)) (now (buckets .entry))
-        (WithHead (w .situation .p) (keysOf (now (table .entry)) (at .since)) (keysOf (now (table .entry)) (at .rows)) k) r (now (table .exit)) (now (buckets .exit))) ⌝ }
+        (WithHead (w .situation .p) (keysOf (now (table .entry)) (at .since)) (keysOf (now (table .entry)) (at .rows)) k) r (now (table .exit)) (now (buckets .exit)))
+        × (r ≤ at .room → KeepsAnswers (now (words .entry)) (now (dir .entry)) (now (table .exit)) (now (noted .exit)) (at .rows)) ⌝ }
 {
     let before = at.rows;
     let mut since = at.since;
@@ -137,6 +144,7 @@ fn end_wide<'a>(
         before,
         k,
         found,
+        noted,
     ) {
         marks = 1usize << wide(dir[CLAUSE_VARS + k]);
     }
@@ -171,17 +179,20 @@ pub fn end_clause<'a>(
     answers: &mut [u16],
     found: &mut [u16],
     kept: &mut [u16],
+    noted: &mut [u16],
     n: usize,
     at: Round,
     k: usize,
 ) -> usize
     requires { ⌜ HeadAsked (now words) (now dir) (now table) (now heads) (at .since) (at .rows) k × Writable (now table) (now buckets) n (at .room) × (at .rows ≤ n)
-        × Scratch (now seen) (now answers) (now found) × Keeps (now words) (now dir) (now table) (now kept) (at .rows) n ⌝ }
+        × Scratch (now seen) (now answers) (now found) × Keeps (now words) (now dir) (now table) (now kept) (at .rows) n
+        × KeepsAnswers (now words) (now dir) (now table) (now noted) (at .rows) ⌝ }
     ensures { λ r. ⌜ Scratch (now (seen .exit)) (now (answers .exit)) (now (found .exit))
         × ((w : HeadAsked (now (words .entry)) (now (dir .entry)) (now (table .entry)) (now (heads .entry)) (at .since) (at .rows) k)
         → Stepped (w .situation .p) (keysOf (now (table .entry)) (at .rows)) (at .number) (at .room) n (now (table .entry)) (now (buckets .entry))
         (WithHead (w .situation .p) (keysOf (now (table .entry)) (at .since)) (keysOf (now (table .entry)) (at .rows)) k) r (now (table .exit)) (now (buckets .exit)))
-        × (r ≤ at .room → Keeps (now (words .entry)) (now (dir .entry)) (now (table .exit)) (now (kept .exit)) (at .rows) r) ⌝ }
+        × (r ≤ at .room → Keeps (now (words .entry)) (now (dir .entry)) (now (table .exit)) (now (kept .exit)) (at .rows) r)
+        × (r ≤ at .room → KeepsAnswers (now (words .entry)) (now (dir .entry)) (now (table .exit)) (now (noted .exit)) (at .rows)) ⌝ }
 {
     if wide(dir[CLAUSE_VARS + k]) <= KEPT_VARS {
         return end_kept(
@@ -194,6 +205,7 @@ pub fn end_clause<'a>(
             answers,
             found,
             kept,
+            noted,
             n,
             at,
             k,
@@ -208,6 +220,7 @@ pub fn end_clause<'a>(
         seen,
         answers,
         found,
+        noted,
         n,
         at,
         k,
