@@ -37,6 +37,8 @@ use Rattle.steps.specs.Situation.{Setting, Situation}
 use Rattle.rounds.specs.Rounds.{InRounds, Complete}
 use Rattle.steps.proofs.Stepping.{keys-stay}
 use Rattle.ends.specs.Keeping.{Keeping}
+use Rattle.joining.specs.KeptAnswers.{KeepingAnswers}
+use Rattle.joining.proofs.KeptPlaces.{answers-stay}
 use Rattle.ends.proofs.KeptMarks.{keeping-stays}
 
 -- the rows so far are those of round k, those before `since` the rows of the round before
@@ -80,6 +82,12 @@ pub linked-keeps : (p : Program) (table table′ heads′ kept : List ℕ) {sinc
 linked-keeps p table table′ heads′ kept {since} {rows} linked =
     let same = befores-keys since rows table table′ (linked .only-befores) in
     keeping-stays p table table′ kept rows (keysOf table rows) (keysOf table′ rows) (λ m l. same m) (λ key h. rw (same rows) h)
+
+pub linked-keeps-answers : (p : Program) (table table′ heads′ noted : List ℕ) {since rows : ℕ} → Linked table since rows table′ heads′
+    → KeepingAnswers p table noted rows → KeepingAnswers p table′ noted rows
+linked-keeps-answers p table table′ heads′ noted {since} {rows} linked =
+    answers-stay p table table′ noted rows
+    (λ r h. (linked .only-befores (rowSize * r + 1) (λ x a b e. omega arith), linked .only-befores (rowSize * r + 2) (λ x a b e. omega arith)))
 
 module _ (words dir : List ℕ) (p : Program) (setting : Setting words dir p) where
   few : Few p

@@ -30,6 +30,7 @@ ghost use Rattle.steps.specs.Situation.{Setting, Situation, HeadAsked};
 ghost use Rattle.steps.specs.Steps.{RowsIn, Writable, Stepped};
 ghost use Rattle.ends.specs.Ends.{Scratch};
 ghost use Rattle.ends.specs.Keeping.{Keeps};
+ghost use Rattle.joining.specs.KeptAnswers.{KeepsAnswers};
 ghost use Rattle.rounds.specs.Rounds.{RoundsAsked, Finished};
 ghost use Rattle.rounds.specs.Standing.{Stands};
 ghost use Rattle.rounds.specs.Active.{Noted, HeadsNoted, BodiesNoted, Indexed, Concerns, IndexAsked, ShapeAsked, RoundAsked, LookAsked};
@@ -142,18 +143,21 @@ fn look<'a>(
     answers: &mut [u16],
     found: &mut [u16],
     kept: &mut [u16],
+    noted: &mut [u16],
     n: usize,
     at: Round,
     k: usize,
     concerns: u64,
 ) -> usize
     requires { ⌜ LookAsked (now words) (now dir) (now table) (now heads) (at .since) (at .rows) k concerns × Writable (now table) (now buckets) n (at .room) × (at .rows ≤ n)
-        × Scratch (now seen) (now answers) (now found) × Keeps (now words) (now dir) (now table) (now kept) (at .rows) n ⌝ }
+        × Scratch (now seen) (now answers) (now found) × Keeps (now words) (now dir) (now table) (now kept) (at .rows) n
+        × KeepsAnswers (now words) (now dir) (now table) (now noted) (at .rows) ⌝ }
     ensures { λ r. ⌜ Scratch (now (seen .exit)) (now (answers .exit)) (now (found .exit))
         × ((w : HeadAsked (now (words .entry)) (now (dir .entry)) (now (table .entry)) (now (heads .entry)) (at .since) (at .rows) k)
         → Stepped (w .situation .p) (keysOf (now (table .entry)) (at .rows)) (at .number) (at .room) n (now (table .entry)) (now (buckets .entry))
         (Keyed (w .situation .p) (NewIn modes (w .situation .p) (RowsIn (w .situation .p) (keysOf (now (table .entry)) (at .since))) (RowsIn (w .situation .p) (keysOf (now (table .entry)) (at .rows))) k)) r (now (table .exit)) (now (buckets .exit)))
-        × (r ≤ at .room → Keeps (now (words .entry)) (now (dir .entry)) (now (table .exit)) (now (kept .exit)) (at .rows) r) ⌝ }
+        × (r ≤ at .room → Keeps (now (words .entry)) (now (dir .entry)) (now (table .exit)) (now (kept .exit)) (at .rows) r)
+        × (r ≤ at .room → KeepsAnswers (now (words .entry)) (now (dir .entry)) (now (table .exit)) (now (noted .exit)) (at .rows)) ⌝ }
 {
     if (concerns >> k) % 2 == 1 {
         return clause(
@@ -166,6 +170,7 @@ fn look<'a>(
             answers,
             found,
             kept,
+            noted,
             n,
             at,
             k,
@@ -185,17 +190,20 @@ fn round<'a>(
     answers: &mut [u16],
     found: &mut [u16],
     kept: &mut [u16],
+    noted: &mut [u16],
     headed: &[u64],
     bodied: &[u64],
     at: Round,
 ) -> usize
     requires { ⌜ RoundAsked (now words) (now dir) (now table) (now heads) (now headed) (now bodied) (at .since) (at .rows) × Writable (now table) (now buckets) (at .rows) (at .room)
-        × Scratch (now seen) (now answers) (now found) × Keeps (now words) (now dir) (now table) (now kept) (at .rows) (at .rows) ⌝ }
+        × Scratch (now seen) (now answers) (now found) × Keeps (now words) (now dir) (now table) (now kept) (at .rows) (at .rows)
+        × KeepsAnswers (now words) (now dir) (now table) (now noted) (at .rows) ⌝ }
     ensures { λ r. ⌜ Scratch (now (seen .exit)) (now (answers .exit)) (now (found .exit))
         × ((w : Situation (now (words .entry)) (now (dir .entry)) (now (table .entry)) (now (heads .entry)) (at .since) (at .rows))
         → Stepped (w .p) (keysOf (now (table .entry)) (at .rows)) (at .number) (at .room) (at .rows) (now (table .entry)) (now (buckets .entry))
         (Keyed (w .p) (NewGives modes (w .p) (RowsIn (w .p) (keysOf (now (table .entry)) (at .since))) (RowsIn (w .p) (keysOf (now (table .entry)) (at .rows))))) r (now (table .exit)) (now (buckets .exit)))
-        × (r ≤ at .room → Keeps (now (words .entry)) (now (dir .entry)) (now (table .exit)) (now (kept .exit)) (at .rows) r) ⌝ }
+        × (r ≤ at .room → Keeps (now (words .entry)) (now (dir .entry)) (now (table .exit)) (now (kept .exit)) (at .rows) r)
+        × (r ≤ at .room → KeepsAnswers (now (words .entry)) (now (dir .entry)) (now (table .exit)) (now (noted .exit)) (at .rows)) ⌝ }
 {
     let room = at.room;
     let clauses = wide(dir[CLAUSE_COUNT]);
@@ -213,6 +221,7 @@ fn round<'a>(
             answers,
             found,
             kept,
+            noted,
             rows,
             at,
             k,
@@ -237,9 +246,10 @@ pub fn rounds<'a>(
     answers: &mut [u16],
     found: &mut [u16],
     kept: &mut [u16],
+    noted: &mut [u16],
     room: usize,
 ) -> usize
-    requires { ⌜ RoundsAsked (now words) (now dir) (now table) (now buckets) (now heads) (now seen) (now answers) (now found) (now kept) room ⌝ }
+    requires { ⌜ RoundsAsked (now words) (now dir) (now table) (now buckets) (now heads) (now seen) (now answers) (now found) (now kept) (now noted) room ⌝ }
     ensures { λ r. ⌜ ((p : Program) → Setting (now (words .entry)) (now (dir .entry)) p → Finished p room r (now (table .exit))) ⌝ }
 {
     let mut headed = [0u64; 64];
@@ -270,6 +280,7 @@ pub fn rounds<'a>(
             answers,
             found,
             kept,
+            noted,
             &headed,
             &bodied,
             at,
