@@ -15,7 +15,7 @@ use Rattle.joining.specs.Answers.{Listing, Answer}
 
 -- answers to so many body atoms are kept
 abbrev pub answerAtoms : ℕ
-answerAtoms = 60
+answerAtoms = 128
 
 -- to those of at most so many variables, and so many masks these have
 abbrev pub answerVars : ℕ
