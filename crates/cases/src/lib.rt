@@ -1,4 +1,7 @@
 // Cases on standard input: a line of numbers each.
+pub mod fields;
+pub mod files;
+
 use libc::STDIN_FILENO;
 use libc::STDOUT_FILENO;
 use terms::walk::wide;

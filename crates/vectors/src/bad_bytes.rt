@@ -1,8 +1,10 @@
 // A text with a bad byte in each of its places: a reply each time.
-use crate::reading::print_reply;
-use cases::print;
+use crate::reading::print_reading;
+use cases::fields::print_byte;
+use cases::fields::print_field;
+use cases::files::load_text;
 use libc::STDOUT_FILENO;
-use reader::read::read;
+use text::cut::LINE_FEED;
 ghost use Prim.Native.Nat.{_<_};
 ghost use lib.ListN.{length};
 
@@ -10,16 +12,13 @@ ghost use lib.ListN.{length};
 fn try_byte(text: &mut [u8], at: usize, bad: u8)
     requires { ⌜ at < length (now text) ⌝ }
 {
-    let mut words = [0u16; 2048];
-    let mut names = [0u8; 2048];
     let kept = text[at];
     text[at] = bad;
-    let reply = read(text, &mut words, &mut names);
+    io::print_decimal(STDOUT_FILENO, at as u64);
+    print_field(bad as usize);
+    print_reading(text);
+    print_byte(LINE_FEED);
     text[at] = kept;
-    print(at, b"\t");
-    io::print_decimal(STDOUT_FILENO, bad as u64);
-    print_reply(reply);
-    io::write_all(STDOUT_FILENO, b"\n");
 }
 
 fn try_everywhere(text: &mut [u8], bad: u8) {
@@ -30,12 +29,19 @@ fn try_everywhere(text: &mut [u8], bad: u8) {
     }
 }
 
-pub fn try_bad_bytes(text: &mut [u8]) {
-    try_everywhere(text, 0);
-    try_everywhere(text, 9);
-    try_everywhere(text, 10);
-    try_everywhere(text, 13);
-    try_everywhere(text, 127);
-    try_everywhere(text, 128);
-    try_everywhere(text, 255);
+fn try_each(text: &mut [u8]) {
+    let bad = [0u8, 9, 10, 13, 127, 128, 255];
+    let mut i = 0;
+    while i < 7 {
+        try_everywhere(text, bad[i]);
+        i += 1;
+    }
+}
+
+pub fn try_bad_bytes() {
+    let mut text = io::large_buffer();
+    let size = load_text(b"legs", &mut text);
+    if size < text.len() {
+        try_each(&mut text[..size]);
+    }
 }

@@ -1,19 +1,18 @@
 -- `vectors::try_samples` is safe and ends: no more samples agree than are tried, and each takes a byte of the names. Assumes nothing.
 use Prim.Native.Nat.{_+_, _-_, _≤_}
-use mathlib.Core.Path.{_≡_, _∙_}
 use native.Mathlib.Omega.{arith}
 use lib.ListN.{length}
-use borrow.Author.Needs.{needs}
 use Rattle.text.proofs.Cuts.{part-within}
+use borrow.Author.Needs.{needs}
 use Rattle.vectors.proofs.try_samples.Statement.{statement}
 use Rattle.vectors.proofs.try_samples.Tie as tie
 
 abbrev Inv-loop : tie.InvT-loop
-Inv-loop names text₀ expected₀ agreed₀ tried₀ at₀ text expected agreed tried at =
-    (at ≤ length names + 1) × (tried ≤ at) × (agreed ≤ tried) × (length text ≡ length text₀) × (length expected ≡ length expected₀)
+Inv-loop names agreed₀ tried₀ at₀ agreed tried at =
+    (at ≤ length names + 1) × (tried ≤ at) × (agreed ≤ tried)
 
 abbrev μ-loop : tie.MeasureT-loop
-μ-loop names text₀ expected₀ agreed₀ tried₀ at₀ text expected agreed tried at = length names + 1 - at
+μ-loop names agreed₀ tried₀ at₀ agreed tried at = length names + 1 - at
 
 loop-holds : tie.Need-loop-holds Inv-loop μ-loop
 loop-holds c = search needs
@@ -28,7 +27,7 @@ part-try-sample-start : tie.Need-part-try-sample-start Inv-loop μ-loop
 part-try-sample-start c = search needs
 
 part-try-sample-end : tie.Need-part-try-sample-end Inv-loop μ-loop
-part-try-sample-end c = part-within 10 (c .before .before .before .before .before .before .args .names .now) (c .before .before .loop .at) (c .find .result) (omega arith) (c .find .ensures)
+part-try-sample-end c = part-within 10 (c .before .before .before .before .args .names .now) (c .before .before .loop .at) (c .find .result) (omega arith) (c .find .ensures)
 
 try-sample-requires : tie.Need-try-sample-requires Inv-loop μ-loop
 try-sample-requires c κs = search needs
@@ -41,8 +40,8 @@ add-tried c = search needs
 
 add-at : tie.Need-add-at Inv-loop μ-loop
 add-at c =
-    let f = c .before .before .before .before .before .before .before .before in
-    let w = part-within 10 (f .before .before .before .before .before .before .args .names .now) (f .before .before .loop .at) (f .find .result) (omega arith) (f .find .ensures) in
+    let f = c .before .before in
+    let w = part-within 10 (f .before .before .before .before .args .names .now) (f .before .before .loop .at) (f .find .result) (omega arith) (f .find .ensures) in
     search needs
 
 loop-less : tie.Need-loop-less Inv-loop μ-loop
@@ -50,17 +49,12 @@ loop-less c = search needs
 
 loop-again : tie.Need-loop-again Inv-loop μ-loop
 loop-again c =
-    let f = c .before .before .before .before .before .before .before .before in
-    let w = part-within 10 (f .before .before .before .before .before .before .args .names .now) (f .before .before .loop .at) (f .find .result) (omega arith) (f .find .ensures) in
-    let t = c .before .before .before .before .try-sample in
-    let i = f .before .before .loop .inv in
-    (omega arith, omega arith, omega (arith, t .ensures), t .kept .1 .0 ∙ i .3, t .kept .1 .1 .0 ∙ i .4)
+    let f = c .before .before in
+    let w = part-within 10 (f .before .before .before .before .args .names .now) (f .before .before .loop .at) (f .find .result) (omega arith) (f .find .ensures) in
+    search needs
 
-same-length : tie.Need-same-length Inv-loop μ-loop
-same-length c = search needs
-
-same-length-2 : tie.Need-same-length-2 Inv-loop μ-loop
-same-length-2 c = search needs
+print-tally-requires : tie.Need-print-tally-requires Inv-loop μ-loop
+print-tally-requires c κs = search needs
 
 returns : tie.Need-returns Inv-loop μ-loop
 returns c = search needs
@@ -82,6 +76,5 @@ try-samples-spec =
     add-at
     loop-less
     loop-again
-    same-length
-    same-length-2
+    print-tally-requires
     returns)

@@ -1,8 +1,9 @@
--- `reading::print_reading` is safe and ends. Assumes nothing.
+-- `reading::print_reading` is safe and ends: the rooms lent to the reader are always enough. Assumes nothing.
 use mathlib.Core.Path.{sym}
 use native.Mathlib.Omega.{arith}
 use lib.Seq.{length-take-le}
 use borrow.Author.Needs.{needs}
+use Rattle.printing.proofs.ReadRooms.{accepted-kept}
 use Rattle.vectors.proofs.reading.print_reading.Statement.{statement}
 use Rattle.vectors.proofs.reading.print_reading.Tie as tie
 
@@ -15,37 +16,59 @@ slice-aggregate-read-2 c = search needs
 read-requires : tie.Need-read-requires
 read-requires c κs = search needs
 
-print-reply-requires : tie.Need-print-reply-requires
-print-reply-requires c κs = search needs
-
-print-agreed-requires : tie.Need-print-agreed-requires
-print-agreed-requires c κs = search needs
+print-refused-requires : tie.Need-print-refused-requires
+print-refused-requires c κs = search needs
 
 returns : tie.Need-returns
 returns c = search needs
 
-least-requires : tie.Need-least-requires
-least-requires c κs = search needs
-
 array-share-prefix-words : tie.Need-array-share-prefix-words
-array-share-prefix-words c = search needs
+array-share-prefix-words c =
+    let r = c .before .before .before .before .read in
+    let k = accepted-kept (c .before .before .before .before .before .before .before .before .args .text .now) (r .ensures .0) (r .ensures .1 .0) (r .ensures .1 .1) (c .if1 .left) in
+    omega (arith, k .words-fit, r .kept .1 .0)
 
 slice-aggregate-program : tie.Need-slice-aggregate-program
 slice-aggregate-program c =
-    let r = c .before .before .before .before .before .before .before .read in sym (length-take-le (c .before .least .result) (r .last .1 .0) (omega arith))
+    let r = c .before .before .before .before .before .read in
+    let k = accepted-kept (c .before .before .before .before .before .before .before .before .before .args .text .now) (r .ensures .0) (r .ensures .1 .0) (r .ensures .1 .1) (c .before .if1 .left) in
+    sym (length-take-le (r .result .count) (r .last .1 .0) (omega (arith, k .words-fit, r .kept .1 .0)))
 
-names-size-requires : tie.Need-names-size-requires
-names-size-requires c κs = search needs
+shared-slice-read-wide : tie.Need-shared-slice-read-wide
+shared-slice-read-wide c =
+    let r = c .before .before .before .before .before .before .read in
+    let k = accepted-kept (c .before .before .before .before .before .before .before .before .before .before .args .text .now) (r .ensures .0) (r .ensures .1 .0) (r .ensures .1 .1) (c .before .before .if1 .left) in
+    omega (arith, k .counts-there, length-take-le (r .result .count) (r .last .1 .0) (omega (arith, k .words-fit, r .kept .1 .0)))
 
-least-requires-2 : tie.Need-least-requires-2
-least-requires-2 c κs = search needs
+wide-requires : tie.Need-wide-requires
+wide-requires c κs = search needs
+
+shared-slice-read-wide-2 : tie.Need-shared-slice-read-wide-2
+shared-slice-read-wide-2 c =
+    let r = c .before .before .before .before .before .before .before .before .read in
+    let k = accepted-kept (c .before .before .before .before .before .before .before .before .before .before .before .before .args .text .now) (r .ensures .0) (r .ensures .1 .0) (r .ensures .1 .1) (c .before .before .before .before .if1 .left) in
+    omega (arith, k .counts-there, length-take-le (r .result .count) (r .last .1 .0) (omega (arith, k .words-fit, r .kept .1 .0)))
+
+wide-requires-2 : tie.Need-wide-requires-2
+wide-requires-2 c κs = search needs
+
+add-size : tie.Need-add-size
+add-size c = search needs
+
+mul-size : tie.Need-mul-size
+mul-size c = search needs
 
 array-share-prefix-names : tie.Need-array-share-prefix-names
-array-share-prefix-names c = search needs
+array-share-prefix-names c =
+    let r = c .before .before .before .before .before .before .before .before .before .read in
+    let k = accepted-kept (c .before .before .before .before .before .before .before .before .before .before .before .before .before .args .text .now) (r .ensures .0) (r .ensures .1 .0) (r .ensures .1 .1) (c .before .before .before .before .before .if1 .left) in
+    omega (arith, k .names-fit, c .before .before .wide .ensures .0, c .wide2 .ensures .0, r .kept .1 .1 .0)
 
 slice-aggregate-print-accepted : tie.Need-slice-aggregate-print-accepted
 slice-aggregate-print-accepted c =
-    let r = c .before .before .before .before .before .before .before .before .before .before .read in sym (length-take-le (c .before .least2 .result) (r .last .1 .1 .0) (omega arith))
+    let r = c .before .before .before .before .before .before .before .before .before .before .read in
+    let k = accepted-kept (c .before .before .before .before .before .before .before .before .before .before .before .before .before .before .args .text .now) (r .ensures .0) (r .ensures .1 .0) (r .ensures .1 .1) (c .before .before .before .before .before .before .if1 .left) in
+    sym (length-take-le _ (r .last .1 .1 .0) (omega (arith, k .names-fit, c .before .before .before .wide .ensures .0, c .before .wide2 .ensures .0, r .kept .1 .1 .0)))
 
 print-accepted-requires : tie.Need-print-accepted-requires
 print-accepted-requires c κs = search needs
@@ -60,14 +83,16 @@ print-reading-spec =
     slice-aggregate-read
     slice-aggregate-read-2
     read-requires
-    print-reply-requires
-    print-agreed-requires
+    print-refused-requires
     returns
-    least-requires
     array-share-prefix-words
     slice-aggregate-program
-    names-size-requires
-    least-requires-2
+    shared-slice-read-wide
+    wide-requires
+    shared-slice-read-wide-2
+    wide-requires-2
+    add-size
+    mul-size
     array-share-prefix-names
     slice-aggregate-print-accepted
     print-accepted-requires

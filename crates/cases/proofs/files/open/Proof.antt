@@ -3,8 +3,8 @@ use mathlib.Core.Path.{sym}
 use native.Mathlib.Omega.{arith}
 use lib.Seq.{length-take-le}
 use borrow.Author.Needs.{needs}
-use Rattle.vectors.proofs.files.open.Statement.{statement}
-use Rattle.vectors.proofs.files.open.Tie as tie
+use Rattle.cases.proofs.files.open.Statement.{statement}
+use Rattle.cases.proofs.files.open.Tie as tie
 
 slice-aggregate-put-bytes : tie.Need-slice-aggregate-put-bytes
 slice-aggregate-put-bytes c = search needs
