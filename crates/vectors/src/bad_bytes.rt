@@ -5,7 +5,7 @@ use cases::fields::print_field;
 use cases::files::load_text;
 use libc::STDOUT_FILENO;
 use text::cut::LINE_FEED;
-ghost use Prim.Native.Nat.{_<_};
+ghost use Prim.Native.Nat.{_≤_, _<_};
 ghost use lib.ListN.{length};
 
 // A bad byte in one place: the place, the byte, the reply.
@@ -21,20 +21,15 @@ fn try_byte(text: &mut [u8], at: usize, bad: u8)
     text[at] = kept;
 }
 
-fn try_everywhere(text: &mut [u8], bad: u8) {
-    let mut at = 0;
-    while at < text.len() {
-        try_byte(text, at, bad);
-        at += 1;
-    }
-}
-
-fn try_each(text: &mut [u8]) {
+// Each of the seven bytes in every place.
+fn try_everywhere(text: &mut [u8])
+    requires { ⌜ length (now text) ≤ 65536 ⌝ }
+{
     let bad = [0u8, 9, 10, 13, 127, 128, 255];
-    let mut i = 0;
-    while i < 7 {
-        try_everywhere(text, bad[i]);
-        i += 1;
+    let mut n = 0;
+    while n / 7 < text.len() {
+        try_byte(text, n / 7, bad[n % 7]);
+        n += 1;
     }
 }
 
@@ -42,6 +37,6 @@ pub fn try_bad_bytes() {
     let mut text = io::large_buffer();
     let size = load_text(b"legs", &mut text);
     if size < text.len() {
-        try_each(&mut text[..size]);
+        try_everywhere(&mut text[..size]);
     }
 }
