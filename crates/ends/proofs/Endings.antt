@@ -119,8 +119,11 @@ module _ (words dir table heads : List ℕ) (since rows k : ℕ) (w : HeadAsked 
 
   found-few : (m : ℕ) → InSet found m → m < keptMasks
   found-few m i =
-      omega (arith, few-masks words dir table heads since rows k w kept s few first end is-first is-end,
-      mark-below words dir table heads since rows k w 0 rows m (found-result words dir table heads since rows k w known rows (le-refl rows) found marked m i))
+      omega (
+        arith,
+        few-masks words dir table heads since rows k w kept s few first end is-first is-end,
+        mark-below words dir table heads since rows k w 0 rows m (found-result words dir table heads since rows k w known rows (le-refl rows) found marked m i),
+      )
 
   -- the new marks are some of those found, or none
   pub new-all : (marks : ℕ) → marks ≡ 2 ^ getD dir (clauseVars + k) 0 → FoundOn q table rows k (length (w .clause .c .body)) new marks
