@@ -2,3 +2,4 @@
 pub mod answers;
 pub mod joins;
 pub mod kept;
+pub mod listing;

@@ -8,8 +8,8 @@ use lib.ListN.{length, length-set}
 use Rattle.joining.specs.KeptAnswers.{answeredOf}
 use Rattle.joining.proofs.PlaceAnswers.{listing-none, since-known}
 use Rattle.joining.proofs.KeptPlaces.{answer-own, keeps-answers, keeping-noted, known-noted, answered-new, answered-recalled}
-use Rattle.joining.proofs.joins.list_kept.Statement.{statement}
-use Rattle.joining.proofs.joins.list_kept.Tie as tie
+use Rattle.joining.proofs.listing.list_kept.Statement.{statement}
+use Rattle.joining.proofs.listing.list_kept.Tie as tie
 
 add-at : tie.Need-add-at
 add-at c = omega (arith, c .before .before .before .before .before .before .before .pre .0 .kept (c .before .before .before .before .before .before .before .pre .0 .situation) (c .before .before .before .before .before .before .before .pre .0 .body) .near)

@@ -3,8 +3,8 @@ use native.Mathlib.Omega.{arith}
 use borrow.Author.Needs.{needs}
 use mathlib.Core.Path.{refl}
 use Rattle.joining.proofs.KeptPlaces.{body-run, few-vars}
-use Rattle.joining.proofs.joins.list_answers.Statement.{statement}
-use Rattle.joining.proofs.joins.list_answers.Tie as tie
+use Rattle.joining.proofs.listing.list_answers.Statement.{statement}
+use Rattle.joining.proofs.listing.list_answers.Tie as tie
 
 add-wide : tie.Need-add-wide
 add-wide c = search needs

@@ -4,8 +4,8 @@ use native.Mathlib.Omega.{arith}
 use borrow.Author.Needs.{needs}
 use mathlib.Core.Logic.{⊎-elim}
 use Rattle.joining.proofs.PlaceAnswers.{listing-none, answered}
-use Rattle.joining.proofs.joins.list_anew.Statement.{statement}
-use Rattle.joining.proofs.joins.list_anew.Tie as tie
+use Rattle.joining.proofs.listing.list_anew.Statement.{statement}
+use Rattle.joining.proofs.listing.list_anew.Tie as tie
 
 answers-to-requires : tie.Need-answers-to-requires
 answers-to-requires c κs =
