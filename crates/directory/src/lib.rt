@@ -3,5 +3,5 @@ mod goal;
 pub mod layout;
 pub mod lists;
 pub mod numbers;
-mod places;
+pub mod places;
 pub mod placing;

@@ -3,7 +3,7 @@ use crate::atoms::put_atom;
 use crate::atoms::put_atoms;
 use crate::tokens::put_symbol;
 use crate::walked::Walked;
-use terms::walk::terms_end;
+use directory::places::atom_cells;
 use terms::walk::wide;
 use text::cut::LINE_FEED;
 use text::cut::TAB;
@@ -113,17 +113,6 @@ pub fn put_clauses(
     Walked { at, end }
 }
 
-// Where the atom at a place ends: the modes stand behind it, and its tokens need them.
-fn atom_end(words: &[u16], at: usize, predicates: &[u16], functions: &[u16]) -> usize
-    requires { ⌜ Atom-from (now words) at (now predicates) (now functions) ⌝ }
-    ensures { λ r. ⌜ ((a : Atom-from (now (words .entry)) at (now (predicates .entry)) (now (functions .entry))) → r ≡ at + length (enc (a .atom))) ⌝ }
-{
-    let q = wide(words[at]);
-    let next = at + 1;
-    let count = wide(predicates[q]);
-    next + terms_end(&words[next..], functions, count)
-}
-
 // The goal at a place of the words: "one atom, its variable count k, then k modes"
 pub fn put_query(
     out: &mut [u8],
@@ -137,7 +126,7 @@ pub fn put_query(
     requires { ⌜ (Goal-from (now words) at (now predicates) (now functions)) × (Named (now names) (length (now predicates)) (length (now functions))) × (length (now words) ≤ maxWords) ⌝ }
     ensures { λ r. ⌜ ((a : Goal-from (now (words .entry)) at (now (predicates .entry)) (now (functions .entry))) → Put (line query (atomTokens (now (names .entry)) (length (now (predicates .entry))) (modesOf (after 0 (a .goal)) (a .ground)) (enc (a .goal)))) (now (out .entry)) (now (out .exit)) from r) ⌝ }
 {
-    let variables = atom_end(words, at, predicates, functions);
+    let variables = at + atom_cells(words, at, predicates, functions);
     let first = variables + 1;
     let last = first + wide(words[variables]);
     let word = put_bytes(out, from, b"query");
