@@ -13,8 +13,8 @@ use Rattle.table.specs.Table.{Entry, rowWords, entryWords, tableWords, mask}
 use Rattle.table.specs.Keys.{Regular, regular-call, regular-cont, regular-solution, slotOf}
 use Rattle.table.proofs.Entries.{table-words-length, table-words-append}
 use Rattle.steps.specs.Situation.{Setting, BodyOf}
-use Rattle.rounds.specs.Standing.{Stands}
-use Rattle.rounds.proofs.BodyClauses.{shapes-below, bodies-below}
+use Rattle.concerns.specs.Standing.{Stands}
+use Rattle.concerns.proofs.BodyClauses.{shapes-below, bodies-below}
 use Rattle.analysis.specs.Unpacked.{withWords, withRow, Packed}
 
 -- a row of a slot: its kind by where the slot stands

@@ -1,6 +1,6 @@
 // Rows as they stand at the end: round, kind, a, b, mask.
+use concerns::bodies::clause_of;
 use directory::layout::CLAUSE_FIRST;
-use rounds::bodies::clause_of;
 use rows::row::ROW_SIZE;
 use rows::row::mask_at;
 use rows::row::slot_at;
@@ -15,7 +15,7 @@ ghost use lib.ListN.{length, drop};
 ghost use Rattle.rows.specs.Rows.{rowSize};
 ghost use Rattle.table.specs.Table.{tableWords};
 ghost use Rattle.analysis.specs.Unpacked.{withWords, withRow, Packed};
-ghost use Rattle.rounds.specs.Standing.{Stands};
+ghost use Rattle.concerns.specs.Standing.{Stands};
 
 const CALL: u16 = 1;
 

@@ -29,14 +29,13 @@ use Rattle.table.specs.NewRows.{New, NewReached, new-on-head, NewIn}
 use Rattle.table.proofs.Keys.{mask-small}
 use Rattle.steps.specs.Steps.{RowsIn}
 use Rattle.steps.specs.Situation.{Setting, Chains, Situation, BodyOf}
-use Rattle.steps.proofs.Meetings.{setting-within}
+use Rattle.steps.proofs.Meetings.{setting-within, one-predicate}
 use Rattle.steps.proofs.Bodies.{head-is-atom, body-is-atom, body-there, body-few}
 use Rattle.steps.proofs.BodyAtoms.{some-cells, predicate-there}
 use Rattle.steps.proofs.ShapeAtoms.{shape-is-atom}
 use Rattle.steps.proofs.SlotRows.{in-slot}
-use Rattle.rounds.specs.Standing.{Stands}
-use Rattle.rounds.specs.Active.{Concerns, by-call, by-cont, by-solution, Noted, HeadsNoted, BodiesNoted, ShapeAsked}
-use Rattle.ends.proofs.HeadMarks.{one-predicate}
+use Rattle.concerns.specs.Standing.{Stands}
+use Rattle.concerns.specs.Active.{Concerns, by-call, by-cont, by-solution, Noted, HeadsNoted, BodiesNoted, ShapeAsked}
 
 -- a round looks at nothing in a clause that no new row concerns
 module _ {words dir : List ℕ} {p : Program} (s : Setting words dir p) (T₀ T : Row ℕ → Type 0) (k : ℕ)

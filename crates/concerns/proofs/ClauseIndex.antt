@@ -19,10 +19,10 @@ use Rattle.table.specs.Table.{mask}
 use Rattle.table.specs.Keys.{slotOf, Regular, bodyIndex}
 use Rattle.steps.specs.Situation.{Setting, Situation, BodyOf}
 use Rattle.steps.proofs.Bodies.{first-body, body-there}
-use Rattle.rounds.specs.Standing.{Stands}
-use Rattle.rounds.specs.Active.{Concerns, Noted, HeadsNoted, BodiesNoted}
-use Rattle.rounds.proofs.BodyClauses.{clause-found, clause-begun}
-use Rattle.rounds.proofs.ActiveClauses.{head-first, body-first}
+use Rattle.concerns.specs.Standing.{Stands}
+use Rattle.concerns.specs.Active.{Concerns, Noted, HeadsNoted, BodiesNoted}
+use Rattle.concerns.proofs.BodyClauses.{clause-found, clause-begun}
+use Rattle.concerns.proofs.ActiveClauses.{head-first, body-first}
 
 -- the clauses below n are noted for their heads, and the body atoms below n
 abbrev pub HeadsBelow : Program → List ℕ → ℕ → Type 0

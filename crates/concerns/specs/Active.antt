@@ -8,12 +8,8 @@ use Rattle.terms.specs.Mask.{Has}
 use Rattle.program.specs.Program.{Nth, Clause, Program}
 use Rattle.program.specs.Shapes.{shapes}
 use Rattle.directory.specs.Directory.{predicateOf}
-use Rattle.marks.specs.Modes.{modes}
-use Rattle.rows.specs.Rows.{keysOf}
-use Rattle.table.specs.NewRows.{New}
 use Rattle.table.specs.Rules.{Row, call, cont, solution}
-use Rattle.steps.specs.Situation.{Setting, Situation, HeadAsked}
-use Rattle.steps.specs.Steps.{RowsIn}
+use Rattle.steps.specs.Situation.{Setting, Situation}
 
 -- a call row concerns the clauses for its predicate, a cont row its own clause, a solution row the clauses with a body atom of its predicate
 pub data Concerns (p : Program) (k : ℕ) : Row ℕ → Type 0 where
@@ -53,9 +49,3 @@ pub record RoundAsked (words dir table heads headed bodied : List ℕ) (since ro
   pub heads-size : length headed ≡ 64
   pub bodies-size : length bodied ≡ 64
   pub indexed : Indexed (situation .p) headed bodied
-
--- what is asked before a clause is looked at: where a new row concerns it its bit is set
-pub record LookAsked (words dir table heads : List ℕ) (since rows k concerns : ℕ) : Type 0 where
-  pub asked : HeadAsked words dir table heads since rows k
-  pub every : (row : Row ℕ) → New modes (asked .situation .p) (RowsIn (asked .situation .p) (keysOf table since)) (RowsIn (asked .situation .p) (keysOf table rows)) row
-      → Concerns (asked .situation .p) k row → Has concerns k

@@ -2,7 +2,7 @@
 use directory::layout::CLAUSE_FIRST;
 use terms::walk::wide;
 ghost use mathlib.Core.Path.{_≡_};
-ghost use Rattle.rounds.specs.Standing.{Belongs};
+ghost use Rattle.concerns.specs.Standing.{Belongs};
 
 // The clause, from 0, of body atom j.
 pub fn clause_of(words: &[u16], dir: &[u16], j: usize) -> usize

@@ -2,12 +2,12 @@
 use Prim.Native.Nat.{ℕ, _+_, _/_, _%_, _^_, _≤_, _<_}
 use native.Mathlib.Omega.{arith}
 use native.Mathlib.Decide.{decLt}
-use mathlib.Core.Path.{_≡_, sym, ap, subst}
+use mathlib.Core.Path.{_≡_, subst}
 use mathlib.Core.Logic.{_⊎_, inl, inr, ⊎-elim, _↔_}
 use mathlib.Core.List.{List, [], List·Memᴰ, List·Memᴰ·not-nil}
 use lib.ListN.{length, getD, replicate, List·getD-eq-default}
 use lib.Pow.{pow-mono}
-use Rattle.terms.specs.Term.{Term, Subst, app, sub, All, Occ}
+use Rattle.terms.specs.Term.{Term, Subst, All, Occ}
 use Rattle.terms.specs.Cells.{Atom}
 use Rattle.terms.proofs.Masks.{has-none, marks-for, marks-below}
 use Rattle.terms.proofs.Substs.{occ-all, all-occ}
@@ -36,7 +36,7 @@ use Rattle.steps.specs.Situation.{HeadAsked}
 use Rattle.steps.specs.Since.{SinceIn}
 use Rattle.steps.specs.Heads.{ReachedSince, HeadMark, Marked, Solved, solved, FoundOn}
 use Rattle.steps.proofs.ShapeAtoms.{shape-is-atom}
-use Rattle.steps.proofs.Meetings.{setting-within}
+use Rattle.steps.proofs.Meetings.{setting-within, one-predicate}
 use Rattle.steps.proofs.Bodies.{head-is-atom}
 use Rattle.steps.proofs.SlotRows.{in-slot}
 use Rattle.solving.proofs.SolveLaws.{late-row}
@@ -67,13 +67,6 @@ module _ (H S : Term) (N q C R : ℕ) (k : Kept (λ v. Occ v H) N q) where
 
       narrower : (y : ℕ) → All (Known H q (u .α)) (u .β y) → All (Known H N (u .α)) (u .β y)
       narrower y h = occ-all (Known H N (u .α)) (u .β y) (λ z o. known-kept (u .α) z .1 (all-occ (Known H q (u .α)) (u .β y) h z o))
-
--- atoms that unify have one predicate
-pub one-predicate : {P F P′ F′ : List ℕ} {A B : Term} (α β : Subst) → Atom P F A → Atom P′ F′ B → sub A α ≡ sub B β → predicateOf B ≡ predicateOf A
-one-predicate {A = A} {B = B} α β a b e =
-    let f : sub (app (a .predicate) (a .arguments)) α ≡ sub (app (b .predicate) (b .arguments)) β = rw (a .is, b .is) at e in
-    let g : a .predicate ≡ b .predicate = ap predicateOf f in
-    rw (a .is, b .is) (sym g)
 
 -- with nothing before, every row is new
 pub all-new : (p : Program) (T₀ T : Row ℕ → Type 0) → ((row : Row ℕ) → T₀ row → ⊥) → {k i N : ℕ} → Reached modes p T k i N → NewReached modes p T₀ T k i N

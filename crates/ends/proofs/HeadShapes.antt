@@ -18,7 +18,7 @@ use Rattle.table.specs.Rules.{Row}
 use Rattle.table.specs.Steps.{Opens, opens}
 use Rattle.steps.specs.Steps.{Writable, Grew, Stepped}
 use Rattle.steps.specs.Heads.{SolvedOf, solved}
-use Rattle.steps.proofs.Meetings.{setting-within}
+use Rattle.steps.proofs.Meetings.{setting-within, one-predicate}
 use Rattle.steps.proofs.Bodies.{head-is-atom}
 use Rattle.steps.proofs.ShapeAtoms.{shape-is-atom}
 use Rattle.steps.proofs.ShapeLinks.{shapesLeft, link-below, next-link, links-fall, passed-before, all-passed}
@@ -29,7 +29,6 @@ use Rattle.solving.proofs.SolveShape.{found-stays}
 use Rattle.solving.proofs.SolveSets.{stepped-on}
 use Rattle.ends.specs.AtHead.{ClauseAsked, HeadKnown, OfShape, ShapeGives, AtHead, HeadGives}
 use Rattle.ends.proofs.ClauseRows.{stands-on}
-use Rattle.ends.proofs.HeadMarks.{one-predicate}
 
 module _ {words dir table₀ heads known found : List ℕ} {since old k known-marks marks : ℕ} (a : AtHead words dir table₀ heads known found since old k known-marks marks) where
   abbrev p : Program

@@ -1,6 +1,3 @@
--- The laws of the rounds: the clauses that a new row concerns, a round over them, and the rounds until one adds no row.
-pub mod BodyClauses
-pub mod ActiveClauses
-pub mod ClauseIndex
+-- The laws of the rounds: a round over the clauses that a new row concerns, and the rounds until one adds no row.
 pub mod RoundClauses
 pub mod RoundByRound

@@ -18,7 +18,8 @@ use Rattle.table.proofs.Looking.{by-clauses}
 use Rattle.table.proofs.Promise.{sound-same}
 use Rattle.steps.specs.Steps.{RowsIn, Writable, Grew, Stepped}
 use Rattle.steps.specs.Situation.{Situation, HeadAsked}
-use Rattle.rounds.specs.Active.{Concerns, LookAsked}
+use Rattle.concerns.specs.Active.{Concerns}
+use Rattle.rounds.specs.Rounds.{LookAsked}
 use Rattle.steps.proofs.Stepping.{keys-stay, grew-none, stepped-then, stepped-must}
 use Rattle.clauses.proofs.MiddlePlaces.{below-one-more}
 use Rattle.ends.proofs.ClauseRows.{stands-on}

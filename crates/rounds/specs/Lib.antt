@@ -1,4 +1,2 @@
--- What the rounds keep, which clauses a row concerns, and what the rounds end in.
-pub mod Standing
-pub mod Active
+-- What the rounds keep, and what they end in.
 pub mod Rounds

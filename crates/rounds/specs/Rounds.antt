@@ -1,18 +1,22 @@
--- What the rounds begin with, and what they end in.
+-- What the rounds begin with, which clauses a round looks at, and what the rounds end in.
 use Prim.Native.Nat.{ℕ, suc, _+_, _*_, _≤_, _<_}
 use mathlib.Core.Path.{_≡_}
 use mathlib.Core.Logic.{_⊎_}
 use mathlib.Core.List.{List}
 use lib.ListN.{length, replicate}
+use Rattle.terms.specs.Mask.{Has}
 use Rattle.marks.specs.Modes.{modes}
 use Rattle.program.specs.Program.{Program}
 use Rattle.rows.specs.Rows.{rowSize, slots, buckets as bucketCount, maxRows, roundAt, keyAt, keysOf}
 use Rattle.table.specs.Rules.{Row}
+use Rattle.table.specs.NewRows.{New}
 use Rattle.table.specs.Rounds.{At, First}
 use Rattle.table.specs.Table.{MoreThan}
 use Rattle.table.specs.Keys.{rowOf}
 use Rattle.table.specs.RoundKeys.{RoundKeys}
-use Rattle.steps.specs.Situation.{Setting}
+use Rattle.steps.specs.Situation.{Setting, HeadAsked}
+use Rattle.steps.specs.Steps.{RowsIn}
+use Rattle.concerns.specs.Active.{Concerns}
 use Rattle.ends.specs.Ends.{Scratch}
 use Rattle.joining.specs.KeptAnswers.{answerWords}
 use Rattle.ends.specs.Keeping.{keptWords}
@@ -28,6 +32,12 @@ pub record RoundsAsked (words dir table buckets heads seen answers found kept no
   pub none-noted : noted ≡ replicate answerWords 0
   pub room-most : room ≤ maxRows
   pub room-there : rowSize * room ≤ length table
+
+-- what is asked before a clause is looked at: where a new row concerns it its bit is set
+pub record LookAsked (words dir table heads : List ℕ) (since rows k concerns : ℕ) : Type 0 where
+  pub asked : HeadAsked words dir table heads since rows k
+  pub every : (row : Row ℕ) → New modes (asked .situation .p) (RowsIn (asked .situation .p) (keysOf table since)) (RowsIn (asked .situation .p) (keysOf table rows)) row
+      → Concerns (asked .situation .p) k row → Has concerns k
 
 -- each row stands with the round in which it first appears
 abbrev pub InRounds : Program → List ℕ → ℕ → Type 0

@@ -1,136 +1,27 @@
 // The rounds: each looks at the combinations with a row of the last one, clause by clause, and only at clauses that a new row concerns.
-use crate::bodies::clause_of;
 use clauses::clauses::clause;
-use directory::layout::BODY_START;
+use concerns::active::active;
+use concerns::index::note_bodies;
+use concerns::index::note_heads;
 use directory::layout::CLAUSE_COUNT;
-use directory::layout::CLAUSE_FIRST;
-use directory::layout::CLAUSE_HEAD;
 use directory::layout::GOAL_GROUND;
-use directory::layout::SHAPE_CELLS;
-use directory::layout::SHAPE_START;
 use rows::chain::link;
-use rows::row::slot_at;
 use rows::store::add;
-use steps::place::CONTS;
 use steps::place::Round;
-use steps::place::SOLUTIONS;
 use terms::walk::wide;
-ghost use mathlib.Core.Path.{_≡_};
-ghost use Prim.Native.Nat.{ℕ, _+_, _*_, _≤_, _<_};
-ghost use lib.ListN.{length};
-ghost use Rattle.terms.specs.Mask.{Has};
+ghost use Prim.Native.Nat.{_+_, _≤_, _<_};
 ghost use Rattle.marks.specs.Modes.{modes};
 ghost use Rattle.program.specs.Program.{Program};
-ghost use Rattle.directory.specs.Directory.{predicateOf};
-ghost use Rattle.rows.specs.Rows.{rowSize, keysOf};
-ghost use Rattle.table.specs.Rules.{Row};
-ghost use Rattle.table.specs.NewRows.{New, NewIn, NewGives};
+ghost use Rattle.rows.specs.Rows.{keysOf};
+ghost use Rattle.table.specs.NewRows.{NewIn, NewGives};
 ghost use Rattle.table.specs.RoundKeys.{Keyed};
 ghost use Rattle.steps.specs.Situation.{Setting, Situation, HeadAsked};
 ghost use Rattle.steps.specs.Steps.{RowsIn, Writable, Stepped};
 ghost use Rattle.ends.specs.Ends.{Scratch};
 ghost use Rattle.ends.specs.Keeping.{Keeps};
 ghost use Rattle.joining.specs.KeptAnswers.{KeepsAnswers};
-ghost use Rattle.rounds.specs.Rounds.{RoundsAsked, Finished};
-ghost use Rattle.rounds.specs.Standing.{Stands};
-ghost use Rattle.rounds.specs.Active.{Noted, HeadsNoted, BodiesNoted, Indexed, Concerns, IndexAsked, ShapeAsked, RoundAsked, LookAsked};
-
-// Notes clause k for predicate q.
-fn note(set: &mut [u64], q: usize, k: usize)
-    requires { ⌜ (q < length (now set)) × (k < 64) ⌝ }
-    ensures { λ _. ⌜ Noted (now (set .entry)) (now (set .exit)) q k ⌝ }
-{
-    set[q] = set[q] | (1u64 << k);
-}
-
-// Each clause, for its head's predicate.
-fn note_heads(words: &[u16], dir: &[u16], set: &mut [u64])
-    requires { ⌜ IndexAsked (now words) (now dir) × (length (now set) ≡ 64) ⌝ }
-    ensures { λ _. ⌜ ((p : Program) → Setting (now (words .entry)) (now (dir .entry)) p → HeadsNoted p (now (set .exit))) ⌝ }
-{
-    let clauses = wide(dir[CLAUSE_COUNT]);
-    let mut k = 0;
-    while k < clauses {
-        let predicate = wide(words[wide(dir[CLAUSE_HEAD + k])]);
-        note(set, predicate, k);
-        k += 1;
-    }
-}
-
-// Each clause, for the predicates of its body atoms. These stand behind those of the clause before.
-fn note_bodies(words: &[u16], dir: &[u16], set: &mut [u64])
-    requires { ⌜ IndexAsked (now words) (now dir) × (length (now set) ≡ 64) ⌝ }
-    ensures { λ _. ⌜ ((p : Program) → Setting (now (words .entry)) (now (dir .entry)) p → BodiesNoted p (now (set .exit))) ⌝ }
-{
-    let clauses = wide(dir[CLAUSE_COUNT]);
-    let mut j = 0;
-    let mut k = 0;
-    while k < clauses {
-        let end = wide(dir[CLAUSE_FIRST + k + 1]);
-        while j < end {
-            let predicate = wide(words[wide(dir[BODY_START + j])]);
-            note(set, predicate, k);
-            j += 1;
-        }
-        k += 1;
-    }
-}
-
-// The predicate of shape s.
-fn predicate_of(words: &[u16], dir: &[u16], s: usize) -> usize
-    requires { ⌜ ShapeAsked (now words) (now dir) s ⌝ }
-    ensures { λ r. ⌜ ((w : ShapeAsked (now (words .entry)) (now (dir .entry)) s) → r ≡ predicateOf (w .S)) ⌝ }
-{
-    wide(dir[SHAPE_CELLS + wide(dir[SHAPE_START + s])])
-}
-
-// The clauses that row r concerns.
-fn concerned(
-    words: &[u16],
-    dir: &[u16],
-    table: &[u16],
-    r: usize,
-    headed: &[u64],
-    bodied: &[u64],
-) -> u64
-    requires { ⌜ Stands (now words) (now dir) (now table) r × (rowSize * r + 4 < length (now table)) × (length (now headed) ≡ 64) × (length (now bodied) ≡ 64) ⌝ }
-    ensures { λ v. ⌜ ((w : Stands (now (words .entry)) (now (dir .entry)) (now (table .entry)) r) → Indexed (w .p) (now (headed .entry)) (now (bodied .entry))
-        → (k : ℕ) → Concerns (w .p) k (w .row) → Has v k) ⌝ }
-{
-    let slot = wide(slot_at(table, r));
-    if slot < CONTS {
-        return headed[predicate_of(words, dir, slot)];
-    }
-    if slot < SOLUTIONS {
-        return 1u64 << clause_of(words, dir, slot - CONTS);
-    }
-    bodied[predicate_of(words, dir, slot - SOLUTIONS)]
-}
-
-// The clauses that a row from `since` on concerns.
-fn active(
-    words: &[u16],
-    dir: &[u16],
-    table: &[u16],
-    heads: &[u16],
-    since: usize,
-    rows: usize,
-    headed: &[u64],
-    bodied: &[u64],
-) -> u64
-    requires { ⌜ RoundAsked (now words) (now dir) (now table) (now heads) (now headed) (now bodied) since rows ⌝ }
-    ensures { λ v. ⌜ ((w : Situation (now (words .entry)) (now (dir .entry)) (now (table .entry)) (now (heads .entry)) since rows) → Indexed (w .p) (now (headed .entry)) (now (bodied .entry))
-        → (k : ℕ) (row : Row ℕ) → New modes (w .p) (RowsIn (w .p) (keysOf (now (table .entry)) since)) (RowsIn (w .p) (keysOf (now (table .entry)) rows)) row
-        → Concerns (w .p) k row → Has v k) ⌝ }
-{
-    let mut set = 0u64;
-    let mut r = since;
-    while r < rows {
-        set = set | concerned(words, dir, table, r, headed, bodied);
-        r += 1;
-    }
-    set
-}
+ghost use Rattle.rounds.specs.Rounds.{RoundsAsked, LookAsked, Finished};
+ghost use Rattle.concerns.specs.Active.{RoundAsked};
 
 // All that a round looks at in clause k, where its bit says that a new row concerns it. What any other clause could give is there already.
 fn look<'a>(

@@ -1,10 +1,11 @@
--- A shape and an atom of the words: their cells stand in the directory and in the words, and are atoms.
+-- A shape and an atom of the words: their cells stand in the directory and in the words, and are atoms; where they unify, they have one predicate.
 use Prim.Native.Nat.{ℕ, suc, _+_, _-_, _≤_, _<_}
 use native.Mathlib.Omega.{arith}
-use mathlib.Core.Path.{_≡_, sym}
+use mathlib.Core.Path.{_≡_, sym, ap}
 use mathlib.Core.Bool.{Bool, true, false}
 use mathlib.Core.List.{List}
 use lib.ListN.{length, getD, take, drop}
+use Rattle.terms.specs.Term.{Term, Subst, app, sub}
 use Rattle.terms.specs.Cells.{variables, pick, enc, Atom}
 use Rattle.terms.specs.Unifier.{Apart}
 use Rattle.terms.specs.Unified.{Unified, Unification, BothAtoms}
@@ -14,12 +15,19 @@ use Rattle.program.specs.Within.{WithinLimits}
 use Rattle.program.proofs.ProgramWords.{sound-within}
 use Rattle.program.proofs.Nths.{nth-below}
 use Rattle.directory.specs.Layout.{functionsStart, clausesStart, predicatesStart, shapeStart, shapeCells, maxShapes, dirWords}
-use Rattle.directory.specs.Directory.{ShapeAt}
+use Rattle.directory.specs.Directory.{ShapeAt, predicateOf}
 use Rattle.steps.specs.Situation.{Setting, Meeting, Met}
 use Rattle.steps.proofs.ShapeAtoms.{shape-is-atom}
 
 pub setting-within : {words dir : List ℕ} {p : Program} → Setting words dir p → WithinLimits p
 setting-within {words} {p = p} s = sound-within words p (s .accepted)
+
+-- atoms that unify have one predicate
+pub one-predicate : {P F P′ F′ : List ℕ} {A B : Term} (α β : Subst) → Atom P F A → Atom P′ F′ B → sub A α ≡ sub B β → predicateOf B ≡ predicateOf A
+one-predicate {A = A} {B = B} α β a b e =
+    let f : sub (app (a .predicate) (a .arguments)) α ≡ sub (app (b .predicate) (b .arguments)) β = rw (a .is, b .is) at e in
+    let g : a .predicate ≡ b .predicate = ap predicateOf f in
+    rw (a .is, b .is) (sym g)
 
 -- the part of a list between two places
 abbrev pub between : List ℕ → ℕ → ℕ → List ℕ

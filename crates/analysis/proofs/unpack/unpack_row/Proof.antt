@@ -3,7 +3,7 @@ use Prim.Native.Nat.{_+_, _-_, _≤_}
 use native.Mathlib.Omega.{arith}
 use mathlib.Core.Path.{_≡_, _∙_}
 use lib.ListN.{getD}
-use Rattle.rounds.proofs.BodyClauses.{clause-few, place-few, place-left, cont-body}
+use Rattle.concerns.proofs.BodyClauses.{clause-few, place-few, place-left, cont-body}
 use Rattle.analysis.proofs.Unpacking.{as-call, as-cont, as-solution}
 use borrow.Author.Needs.{needs}
 use Rattle.analysis.proofs.unpack.unpack_row.Statement.{statement}

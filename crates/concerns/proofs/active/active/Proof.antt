@@ -2,11 +2,11 @@
 use Prim.Native.Nat.{_-_, _≤_}
 use native.Mathlib.Omega.{arith}
 use Rattle.steps.specs.Situation.{Situation}
-use Rattle.rounds.specs.Active.{Indexed}
-use Rattle.rounds.proofs.ActiveClauses.{new-stands, row-there}
-use Rattle.rounds.proofs.ClauseIndex.{ActiveBelow, active-on}
-use Rattle.rounds.proofs.rounds.active.Statement.{statement}
-use Rattle.rounds.proofs.rounds.active.Tie as tie
+use Rattle.concerns.specs.Active.{Indexed}
+use Rattle.concerns.proofs.ActiveClauses.{new-stands, row-there}
+use Rattle.concerns.proofs.ClauseIndex.{ActiveBelow, active-on}
+use Rattle.concerns.proofs.active.active.Statement.{statement}
+use Rattle.concerns.proofs.active.active.Tie as tie
 
 abbrev Inv-loop : tie.InvT-loop
 Inv-loop words dir table heads since rows headed bodied set₀ r₀ set r =

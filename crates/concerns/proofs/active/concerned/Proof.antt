@@ -3,10 +3,10 @@ use native.Mathlib.Omega.{arith}
 use borrow.Author.Needs.{needs}
 use mathlib.Core.Path.{refl, _∙_}
 use Rattle.terms.proofs.Masks.{has-one}
-use Rattle.rounds.proofs.BodyClauses.{clause-few, cont-body}
-use Rattle.rounds.proofs.ActiveClauses.{shifted-bit, shape-declared, call-shape, solution-shape, call-concerns, solution-concerns, cont-concerns}
-use Rattle.rounds.proofs.rounds.concerned.Statement.{statement}
-use Rattle.rounds.proofs.rounds.concerned.Tie as tie
+use Rattle.concerns.proofs.BodyClauses.{clause-few, cont-body}
+use Rattle.concerns.proofs.ActiveClauses.{shifted-bit, shape-declared, call-shape, solution-shape, call-concerns, solution-concerns, cont-concerns}
+use Rattle.concerns.proofs.active.concerned.Statement.{statement}
+use Rattle.concerns.proofs.active.concerned.Tie as tie
 
 slot-at-requires : tie.Need-slot-at-requires
 slot-at-requires c κs = search needs

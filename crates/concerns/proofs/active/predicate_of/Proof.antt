@@ -2,9 +2,9 @@
 use native.Mathlib.Omega.{arith}
 use borrow.Author.Needs.{needs}
 use mathlib.Core.Path.{_∙_}
-use Rattle.rounds.proofs.ActiveClauses.{shape-in-dir, shape-first}
-use Rattle.rounds.proofs.rounds.predicate_of.Statement.{statement}
-use Rattle.rounds.proofs.rounds.predicate_of.Tie as tie
+use Rattle.concerns.proofs.ActiveClauses.{shape-in-dir, shape-first}
+use Rattle.concerns.proofs.active.predicate_of.Statement.{statement}
+use Rattle.concerns.proofs.active.predicate_of.Tie as tie
 
 add-wide : tie.Need-add-wide
 add-wide c = omega (arith, shape-in-dir (c .before .before .pre .setting) (c .before .before .pre .nth-shape) .0)

@@ -1,10 +1,10 @@
 -- `clause_of` meets its contract: no clause passed is behind the body atom's. The measure is how many clauses there may be yet. Assumes nothing.
 use Prim.Native.Nat.{_-_, _≤_}
 use native.Mathlib.Omega.{arith}
-use Rattle.rounds.specs.Standing.{Belongs}
-use Rattle.rounds.proofs.BodyClauses.{clause-later, clause-found, clause-few}
-use Rattle.rounds.proofs.bodies.clause_of.Statement.{statement}
-use Rattle.rounds.proofs.bodies.clause_of.Tie as tie
+use Rattle.concerns.specs.Standing.{Belongs}
+use Rattle.concerns.proofs.BodyClauses.{clause-later, clause-found, clause-few}
+use Rattle.concerns.proofs.bodies.clause_of.Statement.{statement}
+use Rattle.concerns.proofs.bodies.clause_of.Tie as tie
 
 abbrev Inv-loop : tie.InvT-loop
 Inv-loop words dir j k₀ k = (w : Belongs words dir j) → k ≤ w .body .k

@@ -1,8 +1,8 @@
 -- `note` meets its contract: the bit is put in, and no other is touched. Assumes nothing.
 use borrow.Author.Needs.{needs}
-use Rattle.rounds.proofs.ActiveClauses.{noted-one}
-use Rattle.rounds.proofs.rounds.note.Statement.{statement}
-use Rattle.rounds.proofs.rounds.note.Tie as tie
+use Rattle.concerns.proofs.ActiveClauses.{noted-one}
+use Rattle.concerns.proofs.index.note.Statement.{statement}
+use Rattle.concerns.proofs.index.note.Tie as tie
 
 mul-set : tie.Need-mul-set
 mul-set c = search needs

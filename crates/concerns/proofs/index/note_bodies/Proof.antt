@@ -6,10 +6,10 @@ use lib.ListN.{length, getD}
 use Rattle.program.specs.Program.{Program}
 use Rattle.directory.specs.Layout.{clauseFirst, clauseCount}
 use Rattle.steps.specs.Situation.{Setting}
-use Rattle.rounds.proofs.ActiveClauses.{body-in-words, body-declared, head-in-words}
-use Rattle.rounds.proofs.ClauseIndex.{BodiesBelow, clause-at, clause-spans, body-here, body-own, next-begins, bodies-on, bodies-all}
-use Rattle.rounds.proofs.rounds.note_bodies.Statement.{statement}
-use Rattle.rounds.proofs.rounds.note_bodies.Tie as tie
+use Rattle.concerns.proofs.ActiveClauses.{body-in-words, body-declared, head-in-words}
+use Rattle.concerns.proofs.ClauseIndex.{BodiesBelow, clause-at, clause-spans, body-here, body-own, next-begins, bodies-on, bodies-all}
+use Rattle.concerns.proofs.index.note_bodies.Statement.{statement}
+use Rattle.concerns.proofs.index.note_bodies.Tie as tie
 
 abbrev Inv-loop2 : tie.InvT-loop2
 Inv-loop2 words dir set₀ clauses j₀ k end set j =

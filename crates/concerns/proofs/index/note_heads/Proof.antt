@@ -6,10 +6,10 @@ use lib.ListN.{length, getD}
 use Rattle.program.specs.Program.{Program}
 use Rattle.directory.specs.Layout.{clauseCount}
 use Rattle.steps.specs.Situation.{Setting}
-use Rattle.rounds.proofs.ActiveClauses.{head-in-words, head-declared}
-use Rattle.rounds.proofs.ClauseIndex.{HeadsBelow, clause-at, heads-on, heads-all}
-use Rattle.rounds.proofs.rounds.note_heads.Statement.{statement}
-use Rattle.rounds.proofs.rounds.note_heads.Tie as tie
+use Rattle.concerns.proofs.ActiveClauses.{head-in-words, head-declared}
+use Rattle.concerns.proofs.ClauseIndex.{HeadsBelow, clause-at, heads-on, heads-all}
+use Rattle.concerns.proofs.index.note_heads.Statement.{statement}
+use Rattle.concerns.proofs.index.note_heads.Tie as tie
 
 abbrev Inv-loop : tie.InvT-loop
 Inv-loop words dir set₀ clauses k₀ set k =

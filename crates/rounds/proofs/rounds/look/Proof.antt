@@ -3,7 +3,7 @@ use native.Mathlib.Omega.{arith}
 use borrow.Author.Needs.{needs}
 use Rattle.steps.proofs.Stepping.{stepped-none}
 use Rattle.ends.proofs.ClauseRows.{clause-few}
-use Rattle.rounds.proofs.ActiveClauses.{not-looked}
+use Rattle.concerns.proofs.ActiveClauses.{not-looked}
 use Rattle.rounds.proofs.RoundClauses.{asked-every}
 use Rattle.rounds.proofs.rounds.look.Statement.{statement}
 use Rattle.rounds.proofs.rounds.look.Tie as tie

@@ -1,0 +1,3 @@
+-- What stands where, and which clauses a row concerns.
+pub mod Standing
+pub mod Active
