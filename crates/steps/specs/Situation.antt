@@ -101,13 +101,6 @@ pub record AnAtom (run : List ℕ) : Type 0 where
   pub A : Term
   pub atom-run : AtomRun run A
 
--- the analysis stands at clause k, whose first body atom is j
-pub record FirstAsked (words dir table heads : List ℕ) (since rows k j : ℕ) : Type 0 where
-  pub situation : Situation words dir table heads since rows
-  pub body : BodyOf (situation .p) j
-  pub clause-is : body .k ≡ k
-  pub place-is : body .i ≡ 0
-
 -- the analysis stands at clause k
 pub record HeadAsked (words dir table heads : List ℕ) (since rows k : ℕ) : Type 0 where
   pub situation : Situation words dir table heads since rows
