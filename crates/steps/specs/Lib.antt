@@ -3,3 +3,4 @@ pub mod Steps
 pub mod Situation
 pub mod Since
 pub mod Heads
+pub mod Unifiers
