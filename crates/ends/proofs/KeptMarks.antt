@@ -19,7 +19,7 @@ use Rattle.program.proofs.Nths.{nth-below}
 use Rattle.directory.specs.Layout.{clauseVars}
 use Rattle.rows.specs.Rows.{keysOf}
 use Rattle.rows.specs.MaskSet.{setWords, InSet}
-use Rattle.rows.proofs.MaskSets.{none-in-zeros}
+use Rattle.rows.proofs.MaskSets.{zero-word, none-in-zeros}
 use Rattle.table.specs.Rules.{Row, call, cont, solution, Reached, first, next}
 use Rattle.table.specs.Keys.{keyOf}
 use Rattle.table.specs.Steps.{opens, makes}
@@ -35,7 +35,7 @@ use Rattle.steps.proofs.Meetings.{setting-within}
 use Rattle.ends.specs.Keeping.{keptVars, keptMasks, keptSet, keptRows, keptWords, KeptIn, knownOf, GoneTo, Keeping, Keeps, Gained, Unkept}
 use Rattle.ends.proofs.ClauseRows.{clause-few}
 use Rattle.ends.proofs.HeadMarks.{all-new, mark-all, mark-below}
-use Rattle.ends.proofs.KeptWords.{zero-word, part-length, part-members}
+use Rattle.ends.proofs.KeptWords.{part-length, part-members}
 
 -- marks result from rows that are known alone, or from one that is not
 pub reached-known-or-new : (p : Program) (known ks : List ℕ) {k i N : ℕ} → Reached modes p (RowsIn p ks) k i N

@@ -6,21 +6,13 @@ use native.Mathlib.Nat.{mod-lt}
 use mathlib.Core.Path.{_≡_, refl, ap, _∙_}
 use mathlib.Core.Logic.{_⊎_, inl, inr, ⊎-elim, _↔_}
 use mathlib.Core.List.{List}
-use lib.ListN.{length, getD, set, take, drop, replicate, length-set, length-drop, length-replicate, getD-replicate, List·getD-eq-default}
+use lib.ListN.{length, getD, set, take, drop, length-set, length-drop, List·getD-eq-default}
 use lib.Seq.{getD-set-same, getD-set-other, length-take-le, getD-take, getD-drop}
 use lib.Bits.{bitAnd, bitOr, bitXor, differ, and-step, and-shr, xor-step, xor-shr}
 use Rattle.terms.specs.Mask.{Has}
 use Rattle.terms.proofs.Masks.{has-none, has-or}
 use Rattle.rows.specs.MaskSet.{InSet}
 use Rattle.ends.specs.Keeping.{keptSet, keptMasks, keptWords, KeptIn, Gained, Unkept}
-
--- words that are 0
-pub zero-word : (n i : ℕ) → _≡_ {A = ℕ} (getD (replicate n 0) i 0) 0
-zero-word n i = at (decLt i n)
-  where
-    at : Dec (i < n) → _≡_ {A = ℕ} (getD (replicate n 0) i 0) 0
-    at (yes l) = getD-replicate {A = ℕ} n i 0 0 l
-    at (no o) = List·getD-eq-default {A = ℕ} (replicate n 0) 0 {n = i} (let e = length-replicate {A = ℕ} n 0 in omega arith)
 
 -- the set of clause k, as a part of the words
 module _ (kept : List ℕ) (size : length kept ≡ keptWords) (k : ℕ) (few : k < 64) (first end : ℕ) (is-first : first ≡ keptSet * k) (is-end : end ≡ first + keptSet) where

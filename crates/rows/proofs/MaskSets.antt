@@ -13,13 +13,17 @@ use lib.Dec.{T}
 use Rattle.terms.proofs.Masks.{has-or, has-one, has-none, has-decided}
 use Rattle.rows.specs.MaskSet.{InSet, Inserted}
 
+-- words that are all 0
+pub zero-word : (n i : ℕ) → _≡_ {A = ℕ} (getD (replicate n 0) i 0) 0
+zero-word n i = at (decLt i n)
+  where
+    at : Dec (i < n) → _≡_ {A = ℕ} (getD (replicate n 0) i 0) 0
+    at (yes l) = getD-replicate {A = ℕ} n i 0 0 l
+    at (no o) = List·getD-eq-default {A = ℕ} (replicate n 0) 0 {n = i} (let e = length-replicate {A = ℕ} n 0 in omega arith)
+
 -- an empty set has nothing
 pub none-in-zeros : (n q : ℕ) → InSet (replicate n 0) q → ⊥
-none-in-zeros n q h = at (decLt (q / 16) n)
-  where
-    at : Dec (q / 16 < n) → ⊥
-    at (yes l) = has-none (q % 16) (rw (getD-replicate {A = ℕ} n (q / 16) 0 0 l) at h)
-    at (no o) = has-none (q % 16) (rw (List·getD-eq-default {A = ℕ} (replicate n 0) 0 {n = q / 16} (let e = length-replicate {A = ℕ} n 0 in omega arith)) at h)
+none-in-zeros n q h = has-none (q % 16) (rw (zero-word n (q / 16)) at h)
 
 -- the cleared words of a set have nothing
 pub none-in-cleared : (s : List ℕ) (n q : ℕ) → q / 16 < n → InSet (replicate n 0 ++ drop n s) q → ⊥

@@ -1,7 +1,7 @@
 -- Notes of unifiers: none at first, one more behind the others, and the next one taken.
-use Prim.Native.Nat.{ℕ, zero, suc, _+_, _*_, _-_, _≤_, _<_}
+use Prim.Native.Nat.{ℕ, _+_, _*_, _-_, _≤_, _<_}
 use native.Mathlib.Omega.{arith}
-use mathlib.Core.Path.{_≡_, refl, sym, subst, _∙_}
+use mathlib.Core.Path.{_≡_, sym, subst, _∙_}
 use mathlib.Core.List.{List}
 use lib.ListN.{length, getD, set, replicate, length-set}
 use lib.Seq.{getD-set-same, getD-set-other}
@@ -10,6 +10,7 @@ use Rattle.terms.specs.Term.{Term}
 use Rattle.terms.specs.Mask.{Has}
 use Rattle.terms.specs.Unifier.{Apart}
 use Rattle.terms.proofs.Masks.{has-decided}
+use Rattle.rows.proofs.MaskSets.{zero-word}
 use Rattle.steps.specs.Situation.{Meeting, Unifying}
 use Rattle.steps.specs.Unifiers.{allVariables, countOf, Coded, NotesIn, none, apart, unified, firstNote, Notes, SetsPut, NextWord}
 use Rattle.steps.proofs.CodedSets.{coded-stays}
@@ -36,15 +37,10 @@ coded-once {sets = sets} {sets′ = sets′} {other = other} c c′ x l = at (ha
     at (yes h) = c′ .noted x l h ∙ sym (c .noted x l h)
     at (no n) = c′ .itself x l n ∙ sym (c .itself x l n)
 
-zeros-at : (n i : ℕ) → getD {A = ℕ} (replicate n 0) i 0 ≡ 0
-zeros-at zero i = refl
-zeros-at (suc n) zero = refl
-zeros-at (suc n) (suc i) = zeros-at n i
-
 -- in words that are all 0 nothing is noted
 pub no-notes : (words dir : List ℕ) (start cells n : ℕ) → Notes words dir start cells (replicate n 0)
 no-notes words dir start cells n =
-    record { fitting = λ l. omega (arith, zeros-at n 1); left = rw (zeros-at n 0, zeros-at n 1) none }
+    record { fitting = λ l. omega (arith, zero-word n 1); left = rw (zero-word n 0, zero-word n 1) none }
 
 module _ {words dir : List ℕ} {start cells : ℕ} where
   notes-up : {unifiers : List ℕ} {from to : ℕ} → NotesIn words dir start cells unifiers from to → from ≤ to
