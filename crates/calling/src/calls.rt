@@ -9,19 +9,21 @@ use rows::maskset::insert;
 use rows::row::before_at;
 use rows::row::mask_at;
 use steps::meet::first_variables;
-use steps::meet::meet;
 use steps::meet::passed;
 use steps::place::Round;
 use steps::place::emit;
+use steps::unifiers::meet_noting;
 use terms::walk::wide;
 ghost use mathlib.Core.Path.{_≡_};
-ghost use Prim.Native.Nat.{_≤_};
-ghost use lib.ListN.{length};
+ghost use Prim.Native.Nat.{_+_, _≤_};
+ghost use lib.ListN.{length, getD};
+ghost use Rattle.directory.specs.Layout.{clauseHead, clauseCells};
 ghost use Rattle.rows.specs.Rows.{keysOf};
 ghost use Rattle.rows.specs.MaskSet.{setWords};
 ghost use Rattle.steps.specs.Situation.{Situation, HeadAsked};
 ghost use Rattle.steps.specs.Steps.{Writable, Stepped};
 ghost use Rattle.steps.specs.Heads.{HeadMark, Marked, Told};
+ghost use Rattle.steps.specs.Unifiers.{Notes};
 ghost use Rattle.calling.specs.Calls.{OpenedBy, Emits, EmitAsked, MarkAsked, MarkShape};
 
 // The new call rows of one shape, to a clause with a body: rows for its first body atom.
@@ -84,6 +86,7 @@ fn mark_shape(
 }
 
 // The call rows of shape s from `since` on, where it unifies with the head of a clause: marks on the head, into the set. Says whether there are any.
+// What the two told when they met is noted.
 fn marks_of_shape<'a>(
     words: &'a [u16],
     dir: &'a [u16],
@@ -95,18 +98,21 @@ fn marks_of_shape<'a>(
     cells: usize,
     there: u16,
     found: &mut [u16],
+    unifiers: &mut [u32],
 ) -> bool
-    requires { ⌜ MarkShape (now words) (now dir) (now table) (now heads) since s start cells there × (length (now found) ≡ setWords) ⌝ }
+    requires { ⌜ MarkShape (now words) (now dir) (now table) (now heads) since s start cells there × (length (now found) ≡ setWords)
+        × Notes (now words) (now dir) start cells (now unifiers) ⌝ }
     ensures { λ r. ⌜ ((a : MarkShape (now (words .entry)) (now (dir .entry)) (now (table .entry)) (now (heads .entry)) since s start cells there)
         → Marked (OpenedBy (a .p) (now (table .entry)) since (a .rows) (a .k) s) (now (found .entry)) (now (found .exit))
-        × Told (OpenedBy (a .p) (now (table .entry)) since (a .rows) (a .k) s) r) ⌝ }
+        × Told (OpenedBy (a .p) (now (table .entry)) since (a .rows) (a .k) s) r)
+        × Notes (now (words .entry)) (now (dir .entry)) start cells (now (unifiers .exit)) ⌝ }
 {
     let newest = wide(heads[s]);
     if newest <= since {
         return false;
     }
     let mut sets = [0u32; 32];
-    if !meet(words, dir, s, start, cells, &mut sets) {
+    if !meet_noting(words, dir, s, start, cells, &mut sets, unifiers) {
         return false;
     }
     let here = first_variables(wide(dir[SHAPE_VARS + s]));
@@ -114,7 +120,7 @@ fn marks_of_shape<'a>(
     true
 }
 
-// All call rows from `since` on, to clause k. Says whether marks result.
+// All call rows from `since` on, to clause k, with notes of what their shapes and the head told. Says whether marks result.
 pub fn mark_head<'a>(
     words: &'a [u16],
     dir: &'a [u16],
@@ -124,11 +130,14 @@ pub fn mark_head<'a>(
     k: usize,
     found: &mut [u16],
     rows: usize,
+    unifiers: &mut [u32],
 ) -> bool
-    requires { ⌜ HeadAsked (now words) (now dir) (now table) (now heads) since rows k × (length (now found) ≡ setWords) ⌝ }
+    requires { ⌜ HeadAsked (now words) (now dir) (now table) (now heads) since rows k × (length (now found) ≡ setWords)
+        × Notes (now words) (now dir) (getD (now dir) (clauseHead + k) 0) (getD (now dir) (clauseCells + k) 0) (now unifiers) ⌝ }
     ensures { λ r. ⌜ ((w : Situation (now (words .entry)) (now (dir .entry)) (now (table .entry)) (now (heads .entry)) since rows)
         → Marked (HeadMark (w .p) (now (table .entry)) since rows k 0) (now (found .entry)) (now (found .exit))
-        × Told (HeadMark (w .p) (now (table .entry)) since rows k 0) r) ⌝ }
+        × Told (HeadMark (w .p) (now (table .entry)) since rows k 0) r)
+        × Notes (now (words .entry)) (now (dir .entry)) (getD (now (dir .entry)) (clauseHead + k) 0) (getD (now (dir .entry)) (clauseCells + k) 0) (now (unifiers .exit)) ⌝ }
 {
     let start = wide(dir[CLAUSE_HEAD + k]);
     let cells = wide(dir[CLAUSE_CELLS + k]);
@@ -148,6 +157,7 @@ pub fn mark_head<'a>(
             cells,
             there,
             found,
+            unifiers,
         ) {
             any = true;
         }

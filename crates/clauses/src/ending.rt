@@ -1,4 +1,5 @@
 // The head of a clause in a round: what its new call rows open, and what the clause ends in. Marks on a head of few variables are kept between rounds.
+use directory::layout::CLAUSE_FIRST;
 use directory::layout::CLAUSE_HEAD;
 use directory::layout::CLAUSE_VARS;
 use ends::ends::head_marks;
@@ -19,9 +20,16 @@ ghost use Rattle.directory.specs.Layout.{clauseVars};
 ghost use Rattle.rows.specs.Rows.{keysOf};
 ghost use Rattle.steps.specs.Situation.{HeadAsked};
 ghost use Rattle.steps.specs.Steps.{Writable, Stepped};
-ghost use Rattle.ends.specs.Ends.{WithHead, Scratch};
+ghost use Rattle.ends.specs.Ends.{WithHead, Scratch, HeadNotes};
 ghost use Rattle.ends.specs.Keeping.{keptVars, Keeps};
 ghost use Rattle.joining.specs.KeptAnswers.{KeepsAnswers};
+
+// The words in which a fact notes what the shapes of its new call rows and its head told: they meet again where its marks go to the call rows. A pair
+// for which there is no room is unified again.
+const UNIFIER_WORDS: usize = 448;
+
+// Those of a clause with a body, whose pairs meet once: there is no room for a note.
+const NO_UNIFIER: usize = 2;
 
 // A clause whose marks are kept: those that are kept go to the call rows that they have not gone to yet, and the new ones to all.
 fn end_kept<'a>(
@@ -35,6 +43,7 @@ fn end_kept<'a>(
     found: &mut [u16],
     kept: &mut [u16],
     noted: &mut [u16],
+    unifiers: &mut [u32],
     n: usize,
     at: Round,
     k: usize,
@@ -42,7 +51,7 @@ fn end_kept<'a>(
     requires { ⌜ HeadAsked (now words) (now dir) (now table) (now heads) (at .since) (at .rows) k × Writable (now table) (now buckets) n (at .room) × (at .rows ≤ n)
         × Scratch (now seen) (now answers) (now found) × Keeps (now words) (now dir) (now table) (now kept) (at .rows) n
         × KeepsAnswers (now words) (now dir) (now table) (now noted) (at .rows)
-        × (getD (now dir) (clauseVars + k) 0 ≤ keptVars) ⌝ }
+        × (getD (now dir) (clauseVars + k) 0 ≤ keptVars) × HeadNotes (now words) (now dir) k (now unifiers) ⌝ }
     ensures { λ r. ⌜ Scratch (now (seen .exit)) (now (answers .exit)) (now (found .exit))
         × ((w : HeadAsked (now (words .entry)) (now (dir .entry)) (now (table .entry)) (now (heads .entry)) (at .since) (at .rows) k)
         → Stepped (w .situation .p) (keysOf (now (table .entry)) (at .rows)) (at .number) (at .room) n (now (table .entry)) (now (buckets .entry))
@@ -68,6 +77,7 @@ fn end_kept<'a>(
         k,
         found,
         noted,
+        unifiers,
     );
     let mut marks = 0;
     if new_marks(kept, k, found) {
@@ -96,6 +106,7 @@ fn end_kept<'a>(
         all,
         found,
         marks,
+        unifiers,
     );
     keep(found, k, kept);
     clear(found, KEPT_SET);
@@ -114,12 +125,14 @@ fn end_wide<'a>(
     answers: &mut [u16],
     found: &mut [u16],
     noted: &mut [u16],
+    unifiers: &mut [u32],
     n: usize,
     at: Round,
     k: usize,
 ) -> usize
     requires { ⌜ HeadAsked (now words) (now dir) (now table) (now heads) (at .since) (at .rows) k × Writable (now table) (now buckets) n (at .room) × (at .rows ≤ n)
-        × Scratch (now seen) (now answers) (now found) × KeepsAnswers (now words) (now dir) (now table) (now noted) (at .rows) ⌝ }
+        × Scratch (now seen) (now answers) (now found) × KeepsAnswers (now words) (now dir) (now table) (now noted) (at .rows)
+        × HeadNotes (now words) (now dir) k (now unifiers) ⌝ }
     ensures { λ r. ⌜ Scratch (now (seen .exit)) (now (answers .exit)) (now (found .exit))
         × ((w : HeadAsked (now (words .entry)) (now (dir .entry)) (now (table .entry)) (now (heads .entry)) (at .since) (at .rows) k)
         → Stepped (w .situation .p) (keysOf (now (table .entry)) (at .rows)) (at .number) (at .room) n (now (table .entry)) (now (buckets .entry))
@@ -145,6 +158,7 @@ fn end_wide<'a>(
         k,
         found,
         noted,
+        unifiers,
     ) {
         marks = 1usize << wide(dir[CLAUSE_VARS + k]);
     }
@@ -163,9 +177,73 @@ fn end_wide<'a>(
         0,
         found,
         marks,
+        unifiers,
     );
     clear(found, (marks + 15) / 16);
     rows
+}
+
+// The head of clause k, with words for notes of what shapes and it told.
+fn end_noting<'a>(
+    words: &'a [u16],
+    dir: &'a [u16],
+    table: &mut [u16],
+    buckets: &mut [u16],
+    heads: &[u16],
+    seen: &mut [u16],
+    answers: &mut [u16],
+    found: &mut [u16],
+    kept: &mut [u16],
+    noted: &mut [u16],
+    unifiers: &mut [u32],
+    n: usize,
+    at: Round,
+    k: usize,
+) -> usize
+    requires { ⌜ HeadAsked (now words) (now dir) (now table) (now heads) (at .since) (at .rows) k × Writable (now table) (now buckets) n (at .room) × (at .rows ≤ n)
+        × Scratch (now seen) (now answers) (now found) × Keeps (now words) (now dir) (now table) (now kept) (at .rows) n
+        × KeepsAnswers (now words) (now dir) (now table) (now noted) (at .rows)
+        × HeadNotes (now words) (now dir) k (now unifiers) ⌝ }
+    ensures { λ r. ⌜ Scratch (now (seen .exit)) (now (answers .exit)) (now (found .exit))
+        × ((w : HeadAsked (now (words .entry)) (now (dir .entry)) (now (table .entry)) (now (heads .entry)) (at .since) (at .rows) k)
+        → Stepped (w .situation .p) (keysOf (now (table .entry)) (at .rows)) (at .number) (at .room) n (now (table .entry)) (now (buckets .entry))
+        (WithHead (w .situation .p) (keysOf (now (table .entry)) (at .since)) (keysOf (now (table .entry)) (at .rows)) k) r (now (table .exit)) (now (buckets .exit)))
+        × (r ≤ at .room → Keeps (now (words .entry)) (now (dir .entry)) (now (table .exit)) (now (kept .exit)) (at .rows) r)
+        × (r ≤ at .room → KeepsAnswers (now (words .entry)) (now (dir .entry)) (now (table .exit)) (now (noted .exit)) (at .rows)) ⌝ }
+{
+    if wide(dir[CLAUSE_VARS + k]) <= KEPT_VARS {
+        return end_kept(
+            words,
+            dir,
+            table,
+            buckets,
+            heads,
+            seen,
+            answers,
+            found,
+            kept,
+            noted,
+            unifiers,
+            n,
+            at,
+            k,
+        );
+    }
+    end_wide(
+        words,
+        dir,
+        table,
+        buckets,
+        heads,
+        seen,
+        answers,
+        found,
+        noted,
+        unifiers,
+        n,
+        at,
+        k,
+    )
 }
 
 // All that a round looks at with the head of clause k: what new call rows open, and what the clause ends in with a row of the last round.
@@ -194,8 +272,11 @@ pub fn end_clause<'a>(
         × (r ≤ at .room → Keeps (now (words .entry)) (now (dir .entry)) (now (table .exit)) (now (kept .exit)) (at .rows) r)
         × (r ≤ at .room → KeepsAnswers (now (words .entry)) (now (dir .entry)) (now (table .exit)) (now (noted .exit)) (at .rows)) ⌝ }
 {
-    if wide(dir[CLAUSE_VARS + k]) <= KEPT_VARS {
-        return end_kept(
+    let first = wide(dir[CLAUSE_FIRST + k]);
+    let end = wide(dir[CLAUSE_FIRST + k + 1]);
+    if first == end {
+        let mut unifiers = [0u32; UNIFIER_WORDS];
+        return end_noting(
             words,
             dir,
             table,
@@ -206,12 +287,14 @@ pub fn end_clause<'a>(
             found,
             kept,
             noted,
+            &mut unifiers,
             n,
             at,
             k,
         );
     }
-    end_wide(
+    let mut unifiers = [0u32; NO_UNIFIER];
+    end_noting(
         words,
         dir,
         table,
@@ -220,7 +303,9 @@ pub fn end_clause<'a>(
         seen,
         answers,
         found,
+        kept,
         noted,
+        &mut unifiers,
         n,
         at,
         k,

@@ -11,8 +11,10 @@ ghost use Rattle.rows.specs.MaskSet.{setWords};
 ghost use Rattle.steps.specs.Situation.{HeadAsked};
 ghost use Rattle.steps.specs.Heads.{HeadMark, Marked, Told};
 ghost use Rattle.joining.specs.KeptAnswers.{KeepsAnswers};
+ghost use Rattle.ends.specs.Ends.{HeadNotes};
 
-// Marks on the head of clause k that result from rows since `since`. Says whether there are any.
+// Marks on the head of clause k that result from rows since `since`. Says whether there are any. For a clause without a body, what shapes and its head
+// told is noted.
 pub fn head_marks<'a>(
     words: &'a [u16],
     dir: &'a [u16],
@@ -25,19 +27,22 @@ pub fn head_marks<'a>(
     k: usize,
     found: &mut [u16],
     noted: &mut [u16],
+    unifiers: &mut [u32],
 ) -> bool
     requires { ⌜ HeadAsked (now words) (now dir) (now table) (now heads) since before k × (length (now found) ≡ setWords)
-        × (now seen ≡ replicate setWords 0) × (length (now answers) ≡ 4096) × KeepsAnswers (now words) (now dir) (now table) (now noted) before ⌝ }
+        × (now seen ≡ replicate setWords 0) × (length (now answers) ≡ 4096) × KeepsAnswers (now words) (now dir) (now table) (now noted) before
+        × HeadNotes (now words) (now dir) k (now unifiers) ⌝ }
     ensures { λ r. ⌜ (now (seen .exit) ≡ replicate setWords 0)
         × KeepsAnswers (now (words .entry)) (now (dir .entry)) (now (table .entry)) (now (noted .exit)) before
         × ((w : HeadAsked (now (words .entry)) (now (dir .entry)) (now (table .entry)) (now (heads .entry)) since before k)
         → Marked (HeadMark (w .situation .p) (now (table .entry)) since before k (length (w .clause .c .body))) (now (found .entry)) (now (found .exit))
-        × Told (HeadMark (w .situation .p) (now (table .entry)) since before k (length (w .clause .c .body))) r) ⌝ }
+        × Told (HeadMark (w .situation .p) (now (table .entry)) since before k (length (w .clause .c .body))) r)
+        × HeadNotes (now (words .entry)) (now (dir .entry)) k (now (unifiers .exit)) ⌝ }
 {
     let first = wide(dir[CLAUSE_FIRST + k]);
     let end = wide(dir[CLAUSE_FIRST + k + 1]);
     if first == end {
-        return mark_head(words, dir, table, heads, since, k, found, before);
+        return mark_head(words, dir, table, heads, since, k, found, before, unifiers);
     }
     let there = first_variables(wide(dir[CLAUSE_VARS + k]));
     last_place(

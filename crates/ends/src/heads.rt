@@ -12,19 +12,22 @@ use directory::layout::SHAPE_NEXT;
 use directory::layout::SHAPE_VARS;
 use solving::solve::solve_shape;
 use steps::meet::first_variables;
-use steps::meet::meet;
 use steps::meet::order_of;
 use steps::place::Round;
 use steps::place::SOLUTIONS;
+use steps::unifiers::meet_noted;
 use terms::walk::narrow;
 use terms::walk::wide;
 ghost use mathlib.Core.Path.{_≡_};
-ghost use Prim.Native.Nat.{_≤_, _<_};
-ghost use lib.ListN.{length, replicate};
+ghost use Prim.Native.Nat.{_+_, _≤_, _<_};
+ghost use lib.ListN.{length, getD, replicate};
+ghost use Rattle.directory.specs.Layout.{clauseHead, clauseCells};
 ghost use Rattle.rows.specs.Rows.{keysOf};
 ghost use Rattle.rows.specs.MaskSet.{setWords};
 ghost use Rattle.steps.specs.Steps.{Writable, Stepped};
+ghost use Rattle.steps.specs.Unifiers.{Notes};
 ghost use Rattle.ends.specs.AtHead.{ClauseAsked, HeadKnown, AtShape, OfShape, ShapeGives, AtHead, HeadGives};
+ghost use Rattle.ends.specs.Ends.{HeadNotes};
 
 // Where the head of a clause stands, its variables, the clause's body atoms first..end, and how many variables the first has.
 struct Head {
@@ -40,7 +43,8 @@ struct Head {
 fn head_of(words: &[u16], dir: &[u16], k: usize, order: &mut [u8; 16]) -> Head
     requires { ⌜ ClauseAsked (now words) (now dir) k × (length (now order) ≡ 16) ⌝ }
     ensures { λ r. ⌜ ((a : ClauseAsked (now (words .entry)) (now (dir .entry)) k)
-        → HeadKnown (now (words .entry)) (a .p) k (a .c) (now (order .exit)) (r .start) (r .cells) (r .there) (r .first) (r .end) (r .count)) ⌝ }
+        → HeadKnown (now (words .entry)) (a .p) k (a .c) (now (order .exit)) (r .start) (r .cells) (r .there) (r .first) (r .end) (r .count))
+        × (r .start ≡ getD (now (dir .entry)) (clauseHead + k) 0) × (r .cells ≡ getD (now (dir .entry)) (clauseCells + k) 0) ⌝ }
 {
     let start = wide(dir[CLAUSE_HEAD + k]);
     let cells = wide(dir[CLAUSE_CELLS + k]);
@@ -150,7 +154,7 @@ fn at_shape(
     )
 }
 
-// Shape s, where it has a call row from row `from` on and unifies with the head.
+// Shape s, where it has a call row from row `from` on and unifies with the head. What is noted of the two is not found out again.
 fn of_shape<'a>(
     words: &'a [u16],
     dir: &'a [u16],
@@ -169,20 +173,23 @@ fn of_shape<'a>(
     known_marks: usize,
     found: &[u16],
     marks: usize,
+    unifiers: &mut [u32],
 ) -> usize
     requires { ⌜ OfShape (now words) (now dir) (now order) (now table) (now heads) (now known) (now found) (head .start) (head .cells) (head .there) (head .first) (head .end) (head .count) (at .since) (at .rows) s «from» «known_marks» marks
-        × Writable (now table) (now buckets) n (at .room) × (at .rows ≤ n) × (now seen ≡ replicate setWords 0) × (length (now solved) ≡ setWords) ⌝ }
+        × Writable (now table) (now buckets) n (at .room) × (at .rows ≤ n) × (now seen ≡ replicate setWords 0) × (length (now solved) ≡ setWords)
+        × Notes (now words) (now dir) (head .start) (head .cells) (now unifiers) ⌝ }
     ensures { λ r. ⌜ (now (seen .exit) ≡ replicate setWords 0)
         × ((a : OfShape (now (words .entry)) (now (dir .entry)) (now (order .entry)) (now (table .entry)) (now (heads .entry)) (now (known .entry)) (now (found .entry)) (head .start) (head .cells) (head .there) (head .first) (head .end) (head .count) (at .since) (at .rows) s «from» «known_marks» marks)
         → Stepped (a .at-head .head .situation .p) (keysOf (now (table .entry)) (at .rows)) (at .number) (at .room) n (now (table .entry)) (now (buckets .entry))
-        (ShapeGives (a .at-head .head .situation .p) (keysOf (now (table .entry)) (at .since)) (keysOf (now (table .entry)) (at .rows)) (a .k) (now (known .entry)) (now (found .entry)) s) r (now (table .exit)) (now (buckets .exit))) ⌝ }
+        (ShapeGives (a .at-head .head .situation .p) (keysOf (now (table .entry)) (at .since)) (keysOf (now (table .entry)) (at .rows)) (a .k) (now (known .entry)) (now (found .entry)) s) r (now (table .exit)) (now (buckets .exit)))
+        × Notes (now (words .entry)) (now (dir .entry)) (head .start) (head .cells) (now (unifiers .exit)) ⌝ }
 {
     let newest = wide(heads[s]);
     if newest <= from {
         return n;
     }
     let mut sets = [0u32; 32];
-    if !meet(words, dir, s, head.start, head.cells, &mut sets) {
+    if !meet_noted(words, dir, s, head.start, head.cells, &mut sets, unifiers) {
         return n;
     }
     at_shape(
@@ -222,13 +229,16 @@ pub fn at_head<'a>(
     known_marks: usize,
     found: &[u16],
     marks: usize,
+    unifiers: &mut [u32],
 ) -> usize
     requires { ⌜ AtHead (now words) (now dir) (now table) (now heads) (now known) (now found) (at .since) (at .rows) k «known_marks» marks
-        × Writable (now table) (now buckets) n (at .room) × (at .rows ≤ n) × (now seen ≡ replicate setWords 0) × (length (now solved) ≡ setWords) ⌝ }
+        × Writable (now table) (now buckets) n (at .room) × (at .rows ≤ n) × (now seen ≡ replicate setWords 0) × (length (now solved) ≡ setWords)
+        × HeadNotes (now words) (now dir) k (now unifiers) ⌝ }
     ensures { λ r. ⌜ (now (seen .exit) ≡ replicate setWords 0)
         × ((a : AtHead (now (words .entry)) (now (dir .entry)) (now (table .entry)) (now (heads .entry)) (now (known .entry)) (now (found .entry)) (at .since) (at .rows) k «known_marks» marks)
         → Stepped (a .head .situation .p) (keysOf (now (table .entry)) (at .rows)) (at .number) (at .room) n (now (table .entry)) (now (buckets .entry))
-        (HeadGives (a .head .situation .p) (keysOf (now (table .entry)) (at .since)) (keysOf (now (table .entry)) (at .rows)) k (now (known .entry)) (now (found .entry))) r (now (table .exit)) (now (buckets .exit))) ⌝ }
+        (HeadGives (a .head .situation .p) (keysOf (now (table .entry)) (at .since)) (keysOf (now (table .entry)) (at .rows)) k (now (known .entry)) (now (found .entry))) r (now (table .exit)) (now (buckets .exit)))
+        × HeadNotes (now (words .entry)) (now (dir .entry)) k (now (unifiers .exit)) ⌝ }
 {
     let room = at.room;
     let mut order = [0u8; 16];
@@ -257,6 +267,7 @@ pub fn at_head<'a>(
             known_marks,
             found,
             marks,
+            unifiers,
         );
         if room < rows {
             return rows;

@@ -9,62 +9,78 @@ use Rattle.calling.proofs.calls.marks_of_shape.Statement.{statement}
 use Rattle.calling.proofs.calls.marks_of_shape.Tie as tie
 
 mul-wide : tie.Need-mul-wide
-mul-wide c = omega (arith, shape-in-dir (c .before .before .before .before .before .pre .0 .shape) .0)
+mul-wide c = omega (arith, shape-in-dir (c .before .before .before .before .before .before .pre .0 .shape) .0)
 
 shared-slice-read-wide : tie.Need-shared-slice-read-wide
-shared-slice-read-wide c = shape-slot (c .before .before .before .before .before .before .pre .0 .shape)
+shared-slice-read-wide c = shape-slot (c .before .before .before .before .before .before .before .pre .0 .shape)
 
 wide-requires : tie.Need-wide-requires
 wide-requires c κs = search needs
 
 returns : tie.Need-returns
-returns c = λ a.
-    let none = opened-old (a .shape) _ (c .before .wide .ensures .0) (c .if1 .taken) in
-    (marked-none _ (c .before .before .before .before .before .before .before .before .pre .1) none, λ N o. absurd (none N o))
+returns c =
+    let (_, size, notes) = c .before .before .before .before .before .before .before .before .before .pre in (
+      λ a.
+          let none = opened-old (a .shape) _ (c .before .wide .ensures .0) (c .if1 .taken) in
+          (marked-none _ size none, λ N o. absurd (none N o)),
+      notes,
+    )
 
-meet-requires : tie.Need-meet-requires
-meet-requires c κs = shape-meeting (c .before .before .before .before .before .before .before .before .before .pre .0 .shape)
+meet-noting-requires : tie.Need-meet-noting-requires
+meet-noting-requires c κs = let (asked, _, notes) = c .before .before .before .before .before .before .before .before .before .before .before .pre in (shape-meeting (asked .shape), notes)
+
+same-length : tie.Need-same-length
+same-length c = search needs
 
 returns-2 : tie.Need-returns-2
 returns-2 c =
-    λ a.
-    let none = opened-apart (a .shape) (rw (not-true (c .before .meet .result) (c .if2 .taken)) at (c .before .meet .ensures (shape-meeting (a .shape)))) in
-    (marked-none _ (c .before .before .before .before .before .before .before .before .before .before .before .pre .1) none, λ N o. absurd (none N o))
+    let (met, notes) = c .before .before .before .meet-noting .ensures in (
+      λ a.
+          let none = opened-apart (a .shape) (rw (not-true (c .before .before .before .meet-noting .result) (c .if2 .taken)) at (met (shape-meeting (a .shape)))) in
+          (marked-none _ (c .before .before .before .before .before .before .before .before .before .before .before .before .before .before .before .pre .1) none, λ N o. absurd (none N o)),
+      notes,
+    )
 
 add-wide : tie.Need-add-wide
-add-wide c = omega (arith, shape-in-dir (c .before .before .before .before .before .before .before .before .before .before .before .pre .0 .shape) .0)
+add-wide c = omega (arith, shape-in-dir (c .before .before .before .before .before .before .before .before .before .before .before .before .before .before .before .pre .0 .shape) .0)
 
 mul-wide-2 : tie.Need-mul-wide-2
-mul-wide-2 c = omega (arith, shape-in-dir (c .before .before .before .before .before .before .before .before .before .before .before .pre .0 .shape) .0)
+mul-wide-2 c = omega (arith, shape-in-dir (c .before .before .before .before .before .before .before .before .before .before .before .before .before .before .before .pre .0 .shape) .0)
 
 shared-slice-read-wide-2 : tie.Need-shared-slice-read-wide-2
-shared-slice-read-wide-2 c = let few = shape-in-dir (c .before .before .before .before .before .before .before .before .before .before .before .before .pre .0 .shape) in omega (arith, few .0, few .1)
+shared-slice-read-wide-2 c = let few = shape-in-dir (c .before .before .before .before .before .before .before .before .before .before .before .before .before .before .before .before .pre .0 .shape) in omega (arith, few .0, few .1)
 
 wide-requires-2 : tie.Need-wide-requires-2
 wide-requires-2 c κs = search needs
 
 first-variables-requires : tie.Need-first-variables-requires
-first-variables-requires c κs = omega (arith, c .wide2 .ensures .0, shape-entry (c .before .before .before .before .before .before .before .before .before .before .before .before .before .pre .0 .shape) .few)
+first-variables-requires c κs = omega (arith, c .wide2 .ensures .0, shape-entry (c .before .before .before .before .before .before .before .before .before .before .before .before .before .before .before .before .before .pre .0 .shape) .few)
 
 mark-shape-requires : tie.Need-mark-shape-requires
 mark-shape-requires c κs =
-    let (asked, size) = c .before .before .before .before .before .before .before .before .before .before .before .before .before .before .before .before .pre in (
-      mark-calls asked _ _ _ (c .before .before .before .before .before .before .before .before .before .wide .ensures .0)
-          (rw (not-false (c .before .before .before .before .before .before .meet .result) (c .before .before .before .before .before .if2 .left)) at (c .before .before .before .before .before .before .meet .ensures (shape-meeting (asked .shape))))
+    let (asked, size, _) = c .before .before .before .before .before .before .before .before .before .before .before .before .before .before .before .before .before .before .before .before .pre in (
+      mark-calls asked _ _ _ (c .before .before .before .before .before .before .before .before .before .before .before .before .wide .ensures .0)
+          (rw (not-false (c .before .before .before .before .before .before .before .before .meet-noting .result) (c .before .before .before .before .before .if2 .left)) at (c .before .before .before .before .before .before .before .before .meet-noting .ensures .0 (shape-meeting (asked .shape))))
           (c .before .before .first-variables .ensures .0) (rw (c .before .before .before .wide2 .ensures .0) at (c .before .before .first-variables .ensures .1)),
       size,
     )
 
-same-length : tie.Need-same-length
-same-length c = search needs
+same-length-2 : tie.Need-same-length-2
+same-length-2 c = search needs
+
+same-length-3 : tie.Need-same-length-3
+same-length-3 c = search needs
 
 returns-3 : tie.Need-returns-3
 returns-3 c =
-    λ a. (
-      c .before .before .mark-shape .ensures (mark-calls a _ _ _ (c .before .before .before .before .before .before .before .before .before .before .before .before .wide .ensures .0)
-          (rw (not-false (c .before .before .before .before .before .before .before .before .before .meet .result) (c .before .before .before .before .before .before .before .before .if2 .left)) at (c .before .before .before .before .before .before .before .before .before .meet .ensures (shape-meeting (a .shape))))
-          (c .before .before .before .before .before .first-variables .ensures .0) (rw (c .before .before .before .before .before .before .wide2 .ensures .0) at (c .before .before .before .before .before .first-variables .ensures .1))),
-      λ N o. tt,
+    let (met, notes) = c .before .before .before .before .before .before .before .before .before .before .before .meet-noting .ensures in (
+      λ a. (
+        c .before .before .mark-shape .ensures (mark-calls a _ _ _ (c .before .before .before .before .before .before .before .before .before .before .before .before .before .before .before .wide .ensures .0)
+            (rw (not-false (c .before .before .before .before .before .before .before .before .before .before .before .meet-noting .result) (c .before .before .before .before .before .before .before .before .if2 .left)) at (met (shape-meeting (a .shape))))
+            (c .before .before .before .before .before .first-variables .ensures .0) (rw (c .before .before .before .before .before .before .wide2 .ensures .0) at (c .before .before .before .before .before .first-variables .ensures .1))),
+        λ N o. tt,
+      ),
+      notes,
     )
 
 pub marks-of-shape-spec : {M : Type 1} → statement M
@@ -75,7 +91,8 @@ marks-of-shape-spec =
     shared-slice-read-wide
     wide-requires
     returns
-    meet-requires
+    meet-noting-requires
+    same-length
     returns-2
     add-wide
     mul-wide-2
@@ -83,5 +100,6 @@ marks-of-shape-spec =
     wide-requires-2
     first-variables-requires
     mark-shape-requires
-    same-length
+    same-length-2
+    same-length-3
     returns-3)

@@ -1,10 +1,11 @@
--- `at_head` meets its contract. The invariant: what the shapes before the link give is there, and nothing is seen. The measure is how many shapes may be
--- left. Assumes nothing.
+-- `at_head` meets its contract. The invariant: what the shapes before the link give is there, nothing is seen, and the notes are of the head. The measure
+-- is how many shapes may be left. Assumes nothing.
 use native.Mathlib.Omega.{arith}
 use borrow.Author.Needs.{needs}
-use mathlib.Core.Path.{_≡_, sym, ap, _∙_}
+use mathlib.Core.Path.{_≡_, refl, sym, ap, _∙_}
 use lib.ListN.{length, replicate}
 use Rattle.rows.specs.MaskSet.{setWords}
+use Rattle.steps.specs.Unifiers.{Notes}
 use Rattle.steps.proofs.ShapeLinks.{shapesLeft}
 use Rattle.ends.specs.AtHead.{AtHead}
 use Rattle.ends.proofs.HeadShapes.{clause-asked, start-in-words, Along, along-begins, along-few, along-falls, along-shape, along-full, along-on, along-ends}
@@ -12,109 +13,130 @@ use Rattle.ends.proofs.heads.at_head.Statement.{statement}
 use Rattle.ends.proofs.heads.at_head.Tie as tie
 
 abbrev Inv-loop : tie.InvT-loop
-Inv-loop words dir table₀ buckets₀ heads seen₀ solved₀ n at k known known-marks found marks room order head from start rows₀ link₀ table buckets seen solved rows link =
+Inv-loop words dir table₀ buckets₀ heads seen₀ solved₀ n at k known known-marks found marks unifiers₀ room order head from start rows₀ link₀ table buckets seen solved unifiers rows link =
     (seen ≡ replicate setWords 0)
     × (length solved ≡ setWords)
     × ((a : AtHead words dir table₀ heads known found (at .since) (at .rows) k known-marks marks)
     → Along a (at .number) (at .room) n buckets₀ order (head .start) (head .cells) (head .there) (head .first) (head .end) (head .count) from link rows table buckets)
+    × (length unifiers ≡ length unifiers₀) × Notes words dir (head .start) (head .cells) unifiers
 
 abbrev μ-loop : tie.MeasureT-loop
-μ-loop words dir table₀ buckets₀ heads seen₀ solved₀ n at k known known-marks found marks room order head from start rows₀ link₀ table buckets seen solved rows link =
+μ-loop words dir table₀ buckets₀ heads seen₀ solved₀ n at k known known-marks found marks unifiers₀ room order head from start rows₀ link₀ table buckets seen solved unifiers rows link =
     shapesLeft link
 
 head-of-requires : tie.Need-head-of-requires Inv-loop μ-loop
-head-of-requires c κs = (clause-asked (c .before .before .before .before .before .before .before .before .before .before .pre .0), search needs)
+head-of-requires c κs = (clause-asked (c .before .before .before .before .before .before .before .before .before .before .before .pre .0), search needs)
 
 rows-from-requires : tie.Need-rows-from-requires Inv-loop μ-loop
 rows-from-requires c κs = search needs
 
 mul-wide : tie.Need-mul-wide Inv-loop μ-loop
-mul-wide c = let a = c .before .before .before .before .before .before .before .before .before .before .before .before .pre .0 in let h = start-in-words a (c .before .head-of .ensures (clause-asked a)) in omega (arith, h .0, a .head .situation .setting .directory .words-most)
+mul-wide c = let a = c .before .before .before .before .before .before .before .before .before .before .before .before .before .pre .0 in let h = start-in-words a (c .before .head-of .ensures .0 (clause-asked a)) in omega (arith, h .0, a .head .situation .setting .directory .words-most)
 
 shared-slice-read-wide : tie.Need-shared-slice-read-wide Inv-loop μ-loop
-shared-slice-read-wide c = let a = c .before .before .before .before .before .before .before .before .before .before .before .before .before .pre .0 in let h = start-in-words a (c .before .before .head-of .ensures (clause-asked a)) in h .0
+shared-slice-read-wide c = let a = c .before .before .before .before .before .before .before .before .before .before .before .before .before .before .pre .0 in let h = start-in-words a (c .before .before .head-of .ensures .0 (clause-asked a)) in h .0
 
 wide-requires : tie.Need-wide-requires Inv-loop μ-loop
 wide-requires c κs = search needs
 
 add-wide : tie.Need-add-wide Inv-loop μ-loop
-add-wide c = let a = c .before .before .before .before .before .before .before .before .before .before .before .before .before .before .pre .0 in let h = start-in-words a (c .before .before .before .head-of .ensures (clause-asked a)) in omega (arith, h .1, c .wide .ensures .0)
+add-wide c = let a = c .before .before .before .before .before .before .before .before .before .before .before .before .before .before .before .pre .0 in let h = start-in-words a (c .before .before .before .head-of .ensures .0 (clause-asked a)) in omega (arith, h .1, c .wide .ensures .0)
 
 mul-wide-2 : tie.Need-mul-wide-2 Inv-loop μ-loop
-mul-wide-2 c = let a = c .before .before .before .before .before .before .before .before .before .before .before .before .before .before .pre .0 in let h = start-in-words a (c .before .before .before .head-of .ensures (clause-asked a)) in omega (arith, h .1, c .wide .ensures .0)
+mul-wide-2 c = let a = c .before .before .before .before .before .before .before .before .before .before .before .before .before .before .before .pre .0 in let h = start-in-words a (c .before .before .before .head-of .ensures .0 (clause-asked a)) in omega (arith, h .1, c .wide .ensures .0)
 
 shared-slice-read-wide-2 : tie.Need-shared-slice-read-wide-2 Inv-loop μ-loop
-shared-slice-read-wide-2 c = let a = c .before .before .before .before .before .before .before .before .before .before .before .before .before .before .before .pre .0 in let h = start-in-words a (c .before .before .before .before .head-of .ensures (clause-asked a)) in omega (arith, h .1, c .before .wide .ensures .0, a .head .situation .setting .directory .size)
+shared-slice-read-wide-2 c = let a = c .before .before .before .before .before .before .before .before .before .before .before .before .before .before .before .before .pre .0 in let h = start-in-words a (c .before .before .before .before .head-of .ensures .0 (clause-asked a)) in omega (arith, h .1, c .before .wide .ensures .0, a .head .situation .setting .directory .size)
 
 wide-requires-2 : tie.Need-wide-requires-2 Inv-loop μ-loop
 wide-requires-2 c = search needs
 
 loop-holds : tie.Need-loop-holds Inv-loop μ-loop
-loop-holds c =
-    (c .before .before .before .before .before .before .before .before .before .before .before .before .before .before .before .before .pre .3, c .before .before .before .before .before .before .before .before .before .before .before .before .before .before .before .before .pre .4, λ a. along-begins a _ _ _ _ _ _ _ _ _ _ _ _ (c .before .before .before .before .before .before .before .before .before .before .before .before .before .before .before .before .pre .1) (c .before .before .before .before .before .head-of .ensures (clause-asked a)) (c .before .before .before .before .rows-from .ensures) (rw (c .before .before .wide .ensures .0) at (c .wide2 .ensures .0)))
+loop-holds c = (
+  c .before .before .before .before .before .before .before .before .before .before .before .before .before .before .before .before .before .pre .3,
+  c .before .before .before .before .before .before .before .before .before .before .before .before .before .before .before .before .before .pre .4,
+  λ a. along-begins a _ _ _ _ _ _ _ _ _ _ _ _ (c .before .before .before .before .before .before .before .before .before .before .before .before .before .before .before .before .before .pre .1) (c .before .before .before .before .before .head-of .ensures .0 (clause-asked a)) (c .before .before .before .before .rows-from .ensures) (rw (c .before .before .wide .ensures .0) at (c .wide2 .ensures .0)),
+  refl,
+  rw (c .before .before .before .before .before .head-of .ensures .1, c .before .before .before .before .before .head-of .ensures .2) (c .before .before .before .before .before .before .before .before .before .before .before .before .before .before .before .before .before .pre .5),
+)
 
 sub-s : tie.Need-sub-s Inv-loop μ-loop
 sub-s c = omega (arith, c .loop-test .taken)
 
 of-shape-requires : tie.Need-of-shape-requires Inv-loop μ-loop
 of-shape-requires c κs =
-    let a = c .before .before .before .before .before .before .before .before .before .before .before .before .before .before .before .before .before .before .before .before .before .before .before .pre .0 in let v = c .before .before .before .before .before .before .loop .inv .2 a in
-    (along-shape a _ _ _ _ _ _ _ _ _ _ _ _ v (c .before .before .before .before .before .loop-test .taken) (c .before .before .before .before .before .before .before .before .before .before .before .before .before .before .before .before .before .before .before .before .before .before .before .pre .2), v .grew .writable, omega (arith, c .before .before .before .before .before .before .before .before .before .before .before .before .before .before .before .before .before .before .before .before .before .before .before .pre .2, v .grew .more), c .before .before .before .before .before .before .loop .inv .0, c .before .before .before .before .before .before .loop .inv .1)
+    let a = c .before .before .before .before .before .before .before .before .before .before .before .before .before .before .before .before .before .before .before .before .before .before .before .before .before .pre .0 in let v = c .before .before .before .before .before .before .before .loop .inv .2 a in
+    (along-shape a _ _ _ _ _ _ _ _ _ _ _ _ v (c .before .before .before .before .before .before .loop-test .taken) (c .before .before .before .before .before .before .before .before .before .before .before .before .before .before .before .before .before .before .before .before .before .before .before .before .before .pre .2), v .grew .writable, omega (arith, c .before .before .before .before .before .before .before .before .before .before .before .before .before .before .before .before .before .before .before .before .before .before .before .before .before .pre .2, v .grew .more), c .before .before .before .before .before .before .before .loop .inv .0, c .before .before .before .before .before .before .before .loop .inv .1, c .before .before .before .before .before .before .before .loop .inv .4)
 
 same-length : tie.Need-same-length Inv-loop μ-loop
-same-length c = let a = c .before .before .before .before .before .before .before .before .before .before .before .before .before .before .before .before .before .before .before .before .before .before .before .before .before .before .before .before .before .before .before .before .before .pre .0 in let v = c .before .before .before .before .before .before .before .before .before .before .before .before .before .before .before .before .loop .inv .2 a in c .before .before .before .before .before .before .before .before .before .of-shape .kept .1 .1 .1 .1 .0 ∙ v .grew .same-length
+same-length c = let a = c .before .before .before .before .before .before .before .before .before .before .before .before .before .before .before .before .before .before .before .before .before .before .before .before .before .before .before .before .before .before .before .before .before .before .before .before .before .pre .0 in let v = c .before .before .before .before .before .before .before .before .before .before .before .before .before .before .before .before .before .before .before .loop .inv .2 a in c .before .before .before .before .before .before .before .before .before .before .before .of-shape .kept .1 .1 .1 .1 .0 ∙ v .grew .same-length
 
 same-length-2 : tie.Need-same-length-2 Inv-loop μ-loop
-same-length-2 c = let a = c .before .before .before .before .before .before .before .before .before .before .before .before .before .before .before .before .before .before .before .before .before .before .before .before .before .before .before .before .before .before .before .before .before .pre .0 in let v = c .before .before .before .before .before .before .before .before .before .before .before .before .before .before .before .before .loop .inv .2 a in c .before .before .before .before .before .before .before .before .before .of-shape .kept .1 .1 .1 .1 .1 .0 ∙ v .grew .writable .store .all-buckets ∙ sym (c .before .before .before .before .before .before .before .before .before .before .before .before .before .before .before .before .before .before .before .before .before .before .before .before .before .before .before .before .before .before .before .before .before .pre .1 .store .all-buckets)
+same-length-2 c = let a = c .before .before .before .before .before .before .before .before .before .before .before .before .before .before .before .before .before .before .before .before .before .before .before .before .before .before .before .before .before .before .before .before .before .before .before .before .before .pre .0 in let v = c .before .before .before .before .before .before .before .before .before .before .before .before .before .before .before .before .before .before .before .loop .inv .2 a in c .before .before .before .before .before .before .before .before .before .before .before .of-shape .kept .1 .1 .1 .1 .1 .0 ∙ v .grew .writable .store .all-buckets ∙ sym (c .before .before .before .before .before .before .before .before .before .before .before .before .before .before .before .before .before .before .before .before .before .before .before .before .before .before .before .before .before .before .before .before .before .before .before .before .before .pre .1 .store .all-buckets)
 
 same-length-3 : tie.Need-same-length-3 Inv-loop μ-loop
-same-length-3 c = ap length (c .before .before .before .before .before .before .before .before .before .of-shape .ensures .0) ∙ sym (ap length (c .before .before .before .before .before .before .before .before .before .before .before .before .before .before .before .before .before .before .before .before .before .before .before .before .before .before .before .before .before .before .before .before .before .pre .3))
+same-length-3 c = ap length (c .before .before .before .before .before .before .before .before .before .before .before .of-shape .ensures .0) ∙ sym (ap length (c .before .before .before .before .before .before .before .before .before .before .before .before .before .before .before .before .before .before .before .before .before .before .before .before .before .before .before .before .before .before .before .before .before .before .before .before .before .pre .3))
 
 same-length-4 : tie.Need-same-length-4 Inv-loop μ-loop
-same-length-4 c = c .before .before .before .before .before .before .before .before .before .of-shape .kept .1 .1 .1 .1 .1 .1 .1 .1 .0 ∙ c .before .before .before .before .before .before .before .before .before .before .before .before .before .before .before .before .loop .inv .1 ∙ sym (c .before .before .before .before .before .before .before .before .before .before .before .before .before .before .before .before .before .before .before .before .before .before .before .before .before .before .before .before .before .before .before .before .before .pre .4)
+same-length-4 c = c .before .before .before .before .before .before .before .before .before .before .before .of-shape .kept .1 .1 .1 .1 .1 .1 .1 .1 .0 ∙ c .before .before .before .before .before .before .before .before .before .before .before .before .before .before .before .before .before .before .before .loop .inv .1 ∙ sym (c .before .before .before .before .before .before .before .before .before .before .before .before .before .before .before .before .before .before .before .before .before .before .before .before .before .before .before .before .before .before .before .before .before .before .before .before .before .pre .4)
+
+same-length-5 : tie.Need-same-length-5 Inv-loop μ-loop
+same-length-5 c = c .before .before .before .before .before .before .before .before .before .before .before .of-shape .kept .1 .1 .1 .1 .1 .1 .1 .1 .1 .1 .1 .1 .1 .1 .1 .1 .1 .0 ∙ c .before .before .before .before .before .before .before .before .before .before .before .before .before .before .before .before .before .before .before .loop .inv .3
 
 returns : tie.Need-returns Inv-loop μ-loop
-returns c =
-    (c .before .before .before .before .before .before .before .before .before .of-shape .ensures .0, λ a. let v = c .before .before .before .before .before .before .before .before .before .before .before .before .before .before .before .before .loop .inv .2 a in along-full a _ _ _ _ _ _ _ _ _ _ _ _ v (c .before .before .before .before .before .before .before .before .before .before .before .before .before .before .before .loop-test .taken) (c .before .before .before .before .before .before .before .before .before .before .before .before .before .before .before .before .before .before .before .before .before .before .before .before .before .before .before .before .before .before .before .before .before .pre .2) (c .before .before .before .before .before .before .before .before .before .of-shape .ensures .1 (along-shape a _ _ _ _ _ _ _ _ _ _ _ _ v (c .before .before .before .before .before .before .before .before .before .before .before .before .before .before .before .loop-test .taken) (c .before .before .before .before .before .before .before .before .before .before .before .before .before .before .before .before .before .before .before .before .before .before .before .before .before .before .before .before .before .before .before .before .before .pre .2))) (c .if1 .taken))
+returns c = (
+  c .before .before .before .before .before .before .before .before .before .before .before .of-shape .ensures .0,
+  λ a. let v = c .before .before .before .before .before .before .before .before .before .before .before .before .before .before .before .before .before .before .before .loop .inv .2 a in along-full a _ _ _ _ _ _ _ _ _ _ _ _ v (c .before .before .before .before .before .before .before .before .before .before .before .before .before .before .before .before .before .before .loop-test .taken) (c .before .before .before .before .before .before .before .before .before .before .before .before .before .before .before .before .before .before .before .before .before .before .before .before .before .before .before .before .before .before .before .before .before .before .before .before .before .pre .2) (c .before .before .before .before .before .before .before .before .before .before .before .of-shape .ensures .1 (along-shape a _ _ _ _ _ _ _ _ _ _ _ _ v (c .before .before .before .before .before .before .before .before .before .before .before .before .before .before .before .before .before .before .loop-test .taken) (c .before .before .before .before .before .before .before .before .before .before .before .before .before .before .before .before .before .before .before .before .before .before .before .before .before .before .before .before .before .before .before .before .before .before .before .before .before .pre .2))) (c .if1 .taken),
+  rw (← c .before .before .before .before .before .before .before .before .before .before .before .before .before .before .before .before .before .before .before .before .before .before .before .before .before .head-of .ensures .1, ← c .before .before .before .before .before .before .before .before .before .before .before .before .before .before .before .before .before .before .before .before .before .before .before .before .before .head-of .ensures .2) (c .before .before .before .before .before .before .before .before .before .before .before .of-shape .ensures .2),
+)
 
 add-wide-2 : tie.Need-add-wide-2 Inv-loop μ-loop
-add-wide-2 c = let a = c .before .before .before .before .before .before .before .before .before .before .before .before .before .before .before .before .before .before .before .before .before .before .before .before .before .before .before .before .before .before .before .before .before .pre .0 in let v = c .before .before .before .before .before .before .before .before .before .before .before .before .before .before .before .before .loop .inv .2 a in omega (arith, along-few a _ _ _ _ _ _ _ _ _ _ _ _ v (c .before .before .before .before .before .before .before .before .before .before .before .before .before .before .before .loop-test .taken), a .head .situation .setting .directory .size)
+add-wide-2 c = let a = c .before .before .before .before .before .before .before .before .before .before .before .before .before .before .before .before .before .before .before .before .before .before .before .before .before .before .before .before .before .before .before .before .before .before .before .before .before .pre .0 in let v = c .before .before .before .before .before .before .before .before .before .before .before .before .before .before .before .before .before .before .before .loop .inv .2 a in omega (arith, along-few a _ _ _ _ _ _ _ _ _ _ _ _ v (c .before .before .before .before .before .before .before .before .before .before .before .before .before .before .before .before .before .before .loop-test .taken), a .head .situation .setting .directory .size)
 
 mul-wide-3 : tie.Need-mul-wide-3 Inv-loop μ-loop
-mul-wide-3 c = let a = c .before .before .before .before .before .before .before .before .before .before .before .before .before .before .before .before .before .before .before .before .before .before .before .before .before .before .before .before .before .before .before .before .before .pre .0 in let v = c .before .before .before .before .before .before .before .before .before .before .before .before .before .before .before .before .loop .inv .2 a in omega (arith, along-few a _ _ _ _ _ _ _ _ _ _ _ _ v (c .before .before .before .before .before .before .before .before .before .before .before .before .before .before .before .loop-test .taken), a .head .situation .setting .directory .size)
+mul-wide-3 c = let a = c .before .before .before .before .before .before .before .before .before .before .before .before .before .before .before .before .before .before .before .before .before .before .before .before .before .before .before .before .before .before .before .before .before .before .before .before .before .pre .0 in let v = c .before .before .before .before .before .before .before .before .before .before .before .before .before .before .before .before .before .before .before .loop .inv .2 a in omega (arith, along-few a _ _ _ _ _ _ _ _ _ _ _ _ v (c .before .before .before .before .before .before .before .before .before .before .before .before .before .before .before .before .before .before .loop-test .taken), a .head .situation .setting .directory .size)
 
 shared-slice-read-wide-3 : tie.Need-shared-slice-read-wide-3 Inv-loop μ-loop
-shared-slice-read-wide-3 c = let a = c .before .before .before .before .before .before .before .before .before .before .before .before .before .before .before .before .before .before .before .before .before .before .before .before .before .before .before .before .before .before .before .before .before .before .pre .0 in let v = c .before .before .before .before .before .before .before .before .before .before .before .before .before .before .before .before .before .loop .inv .2 a in omega (arith, along-few a _ _ _ _ _ _ _ _ _ _ _ _ v (c .before .before .before .before .before .before .before .before .before .before .before .before .before .before .before .before .loop-test .taken), a .head .situation .setting .directory .size)
+shared-slice-read-wide-3 c = let a = c .before .before .before .before .before .before .before .before .before .before .before .before .before .before .before .before .before .before .before .before .before .before .before .before .before .before .before .before .before .before .before .before .before .before .before .before .before .before .pre .0 in let v = c .before .before .before .before .before .before .before .before .before .before .before .before .before .before .before .before .before .before .before .before .loop .inv .2 a in omega (arith, along-few a _ _ _ _ _ _ _ _ _ _ _ _ v (c .before .before .before .before .before .before .before .before .before .before .before .before .before .before .before .before .before .before .before .loop-test .taken), a .head .situation .setting .directory .size)
 
 wide-requires-3 : tie.Need-wide-requires-3 Inv-loop μ-loop
 wide-requires-3 c = search needs
 
 loop-less : tie.Need-loop-less Inv-loop μ-loop
-loop-less c = let a = c .before .before .before .before .before .before .before .before .before .before .before .before .before .before .before .before .before .before .before .before .before .before .before .before .before .before .before .before .before .before .before .before .before .before .before .pre .0 in let v = c .before .before .before .before .before .before .before .before .before .before .before .before .before .before .before .before .before .before .loop .inv .2 a in rw (c .wide3 .ensures .0) (along-falls a _ _ _ _ _ _ _ _ _ _ _ _ v (c .before .before .before .before .before .before .before .before .before .before .before .before .before .before .before .before .before .loop-test .taken))
+loop-less c = let a = c .before .before .before .before .before .before .before .before .before .before .before .before .before .before .before .before .before .before .before .before .before .before .before .before .before .before .before .before .before .before .before .before .before .before .before .before .before .before .before .pre .0 in let v = c .before .before .before .before .before .before .before .before .before .before .before .before .before .before .before .before .before .before .before .before .before .loop .inv .2 a in rw (c .wide3 .ensures .0) (along-falls a _ _ _ _ _ _ _ _ _ _ _ _ v (c .before .before .before .before .before .before .before .before .before .before .before .before .before .before .before .before .before .before .before .before .loop-test .taken))
 
 loop-again : tie.Need-loop-again Inv-loop μ-loop
 loop-again c = (
-  c .before .before .before .before .before .before .before .before .before .before .before .of-shape .ensures .0,
-  c .before .before .before .before .before .before .before .before .before .before .before .of-shape .kept .1 .1 .1 .1 .1 .1 .1 .1 .0 ∙ c .before .before .before .before .before .before .before .before .before .before .before .before .before .before .before .before .before .before .loop .inv .1,
+  c .before .before .before .before .before .before .before .before .before .before .before .before .before .of-shape .ensures .0,
+  c .before .before .before .before .before .before .before .before .before .before .before .before .before .of-shape .kept .1 .1 .1 .1 .1 .1 .1 .1 .0 ∙ c .before .before .before .before .before .before .before .before .before .before .before .before .before .before .before .before .before .before .before .before .before .loop .inv .1,
   λ a.
-      let v = c .before .before .before .before .before .before .before .before .before .before .before .before .before .before .before .before .before .before .loop .inv .2 a in
-      rw (c .wide3 .ensures .0) (along-on a _ _ _ _ _ _ _ _ _ _ _ _ v (c .before .before .before .before .before .before .before .before .before .before .before .before .before .before .before .before .before .loop-test .taken) (c .before .before .before .before .before .before .before .before .before .before .before .before .before .before .before .before .before .before .before .before .before .before .before .before .before .before .before .before .before .before .before .before .before .before .before .pre .2) (c .before .before .before .before .before .before .before .before .before .before .before .of-shape .ensures .1 (along-shape a _ _ _ _ _ _ _ _ _ _ _ _ v (c .before .before .before .before .before .before .before .before .before .before .before .before .before .before .before .before .before .loop-test .taken) (c .before .before .before .before .before .before .before .before .before .before .before .before .before .before .before .before .before .before .before .before .before .before .before .before .before .before .before .before .before .before .before .before .before .before .before .pre .2))) (c .before .before .if1 .left)),
+      let v = c .before .before .before .before .before .before .before .before .before .before .before .before .before .before .before .before .before .before .before .before .before .loop .inv .2 a in
+      rw (c .wide3 .ensures .0) (along-on a _ _ _ _ _ _ _ _ _ _ _ _ v (c .before .before .before .before .before .before .before .before .before .before .before .before .before .before .before .before .before .before .before .before .loop-test .taken) (c .before .before .before .before .before .before .before .before .before .before .before .before .before .before .before .before .before .before .before .before .before .before .before .before .before .before .before .before .before .before .before .before .before .before .before .before .before .before .before .pre .2) (c .before .before .before .before .before .before .before .before .before .before .before .before .before .of-shape .ensures .1 (along-shape a _ _ _ _ _ _ _ _ _ _ _ _ v (c .before .before .before .before .before .before .before .before .before .before .before .before .before .before .before .before .before .before .before .before .loop-test .taken) (c .before .before .before .before .before .before .before .before .before .before .before .before .before .before .before .before .before .before .before .before .before .before .before .before .before .before .before .before .before .before .before .before .before .before .before .before .before .before .before .pre .2))) (c .before .before .if1 .left)),
+  c .before .before .before .before .before .before .before .before .before .before .before .before .before .of-shape .kept .1 .1 .1 .1 .1 .1 .1 .1 .1 .1 .1 .1 .1 .1 .1 .1 .1 .0 ∙ c .before .before .before .before .before .before .before .before .before .before .before .before .before .before .before .before .before .before .before .before .before .loop .inv .3,
+  c .before .before .before .before .before .before .before .before .before .before .before .before .before .of-shape .ensures .2,
 )
 
-same-length-5 : tie.Need-same-length-5 Inv-loop μ-loop
-same-length-5 c = c .before .loop .inv .2 (c .before .before .before .before .before .before .before .before .before .before .before .before .before .before .before .before .before .before .pre .0) .grew .same-length
-
 same-length-6 : tie.Need-same-length-6 Inv-loop μ-loop
-same-length-6 c = c .before .loop .inv .2 (c .before .before .before .before .before .before .before .before .before .before .before .before .before .before .before .before .before .before .pre .0) .grew .writable .store .all-buckets ∙ sym (c .before .before .before .before .before .before .before .before .before .before .before .before .before .before .before .before .before .before .pre .1 .store .all-buckets)
+same-length-6 c = c .before .loop .inv .2 (c .before .before .before .before .before .before .before .before .before .before .before .before .before .before .before .before .before .before .before .pre .0) .grew .same-length
 
 same-length-7 : tie.Need-same-length-7 Inv-loop μ-loop
-same-length-7 c = ap length (c .before .loop .inv .0) ∙ sym (ap length (c .before .before .before .before .before .before .before .before .before .before .before .before .before .before .before .before .before .before .pre .3))
+same-length-7 c = c .before .loop .inv .2 (c .before .before .before .before .before .before .before .before .before .before .before .before .before .before .before .before .before .before .before .pre .0) .grew .writable .store .all-buckets ∙ sym (c .before .before .before .before .before .before .before .before .before .before .before .before .before .before .before .before .before .before .before .pre .1 .store .all-buckets)
 
 same-length-8 : tie.Need-same-length-8 Inv-loop μ-loop
-same-length-8 c = c .before .loop .inv .1 ∙ sym (c .before .before .before .before .before .before .before .before .before .before .before .before .before .before .before .before .before .before .pre .4)
+same-length-8 c = ap length (c .before .loop .inv .0) ∙ sym (ap length (c .before .before .before .before .before .before .before .before .before .before .before .before .before .before .before .before .before .before .before .pre .3))
+
+same-length-9 : tie.Need-same-length-9 Inv-loop μ-loop
+same-length-9 c = c .before .loop .inv .1 ∙ sym (c .before .before .before .before .before .before .before .before .before .before .before .before .before .before .before .before .before .before .before .pre .4)
+
+same-length-10 : tie.Need-same-length-10 Inv-loop μ-loop
+same-length-10 c = c .before .loop .inv .3
 
 returns-2 : tie.Need-returns-2 Inv-loop μ-loop
-returns-2 c = (c .before .loop .inv .0, λ a. along-ends a _ _ _ _ _ _ _ _ _ _ _ _ (c .before .loop .inv .2 a) (omega (arith, c .loop-test .left)))
+returns-2 c = (
+  c .before .loop .inv .0,
+  λ a. along-ends a _ _ _ _ _ _ _ _ _ _ _ _ (c .before .loop .inv .2 a) (omega (arith, c .loop-test .left)),
+  rw (← c .before .before .before .before .before .before .before .head-of .ensures .1, ← c .before .before .before .before .before .before .before .head-of .ensures .2) (c .before .loop .inv .4),
+)
 
 pub at-head-spec : {M : Type 1} → statement M
 at-head-spec =
@@ -138,6 +160,7 @@ at-head-spec =
     same-length-2
     same-length-3
     same-length-4
+    same-length-5
     returns
     add-wide-2
     mul-wide-3
@@ -145,8 +168,9 @@ at-head-spec =
     wide-requires-3
     loop-less
     loop-again
-    same-length-5
     same-length-6
     same-length-7
     same-length-8
+    same-length-9
+    same-length-10
     returns-2)

@@ -75,7 +75,11 @@ wide-requires-5 : tie.Need-wide-requires-5
 wide-requires-5 c = search needs
 
 returns : tie.Need-returns
-returns c = λ a. head-known a _ _ (c .before .before .before .wide4 .ensures .0) (c .before .wide5 .ensures .0) (c .before .before .before .before .before .before .before .before .before .before .wide .ensures .0) (c .before .before .before .before .before .before .before .before .wide2 .ensures .0) (rw (c .before .before .before .before .before .before .wide3 .ensures .0) at (c .before .before .before .before .before .first-variables .ensures)) (λ some. absurd (omega (arith, c .if1 .taken)))
+returns c = (
+  λ a. head-known a _ _ (c .before .before .before .wide4 .ensures .0) (c .before .wide5 .ensures .0) (c .before .before .before .before .before .before .before .before .before .before .wide .ensures .0) (c .before .before .before .before .before .before .before .before .wide2 .ensures .0) (rw (c .before .before .before .before .before .before .wide3 .ensures .0) at (c .before .before .before .before .before .first-variables .ensures)) (λ some. absurd (omega (arith, c .if1 .taken))),
+  c .before .before .before .before .before .before .before .before .before .before .wide .ensures .0,
+  c .before .before .before .before .before .before .before .before .wide2 .ensures .0,
+)
 
 add-wide-7 : tie.Need-add-wide-7
 add-wide-7 c = search needs
@@ -120,9 +124,12 @@ order-of-requires : tie.Need-order-of-requires
 order-of-requires c κs = (record { A = first-there (c .before .before .before .before .before .before .before .before .before .before .before .before .before .before .before .before .before .before .before .before .pre .0) _ _ (c .before .before .before .before .before .before .before .before .before .wide4 .ensures .0) (c .before .before .before .before .before .before .before .wide5 .ensures .0) (omega (arith, c .before .before .before .before .before .before .if1 .left)) .0; atom-run = first-run (c .before .before .before .before .before .before .before .before .before .before .before .before .before .before .before .before .before .before .before .before .pre .0) _ _ (c .before .before .before .before .before .before .before .before .before .wide4 .ensures .0) (c .before .before .before .before .before .before .before .wide5 .ensures .0) (omega (arith, c .before .before .before .before .before .before .if1 .left)) (c .before .before .before .before .wide6 .result) (c .before .before .before .before .wide6 .result + c .before .before .wide7 .result) (c .before .before .before .before .wide6 .ensures .0) (rw (c .before .before .wide7 .ensures .0) refl) .2 }, c .before .before .before .before .before .before .before .before .before .before .before .before .before .before .before .before .before .before .before .before .pre .1)
 
 returns-2 : tie.Need-returns-2
-returns-2 c =
-    λ a. head-known a _ _ (c .before .before .before .before .before .before .before .before .before .before .wide4 .ensures .0) (c .before .before .before .before .before .before .before .before .wide5 .ensures .0) (c .before .before .before .before .before .before .before .before .before .before .before .before .before .before .before .before .before .wide .ensures .0) (c .before .before .before .before .before .before .before .before .before .before .before .before .before .before .before .wide2 .ensures .0) (rw (c .before .before .before .before .before .before .before .before .before .before .before .before .before .wide3 .ensures .0) at (c .before .before .before .before .before .before .before .before .before .before .before .before .first-variables .ensures))
-    (λ some. first-atom a _ _ (c .before .before .before .before .before .before .before .before .before .before .wide4 .ensures .0) (c .before .before .before .before .before .before .before .before .wide5 .ensures .0) some (c .order-of .ensures .1 _ (first-run a _ _ (c .before .before .before .before .before .before .before .before .before .before .wide4 .ensures .0) (c .before .before .before .before .before .before .before .before .wide5 .ensures .0) some (c .before .before .before .before .before .wide6 .result) (c .before .before .before .before .before .wide6 .result + c .before .before .before .wide7 .result) (c .before .before .before .before .before .wide6 .ensures .0) (rw (c .before .before .before .wide7 .ensures .0) refl) .2)))
+returns-2 c = (
+  λ a. head-known a _ _ (c .before .before .before .before .before .before .before .before .before .before .wide4 .ensures .0) (c .before .before .before .before .before .before .before .before .wide5 .ensures .0) (c .before .before .before .before .before .before .before .before .before .before .before .before .before .before .before .before .before .wide .ensures .0) (c .before .before .before .before .before .before .before .before .before .before .before .before .before .before .before .wide2 .ensures .0) (rw (c .before .before .before .before .before .before .before .before .before .before .before .before .before .wide3 .ensures .0) at (c .before .before .before .before .before .before .before .before .before .before .before .before .first-variables .ensures))
+      (λ some. first-atom a _ _ (c .before .before .before .before .before .before .before .before .before .before .wide4 .ensures .0) (c .before .before .before .before .before .before .before .before .wide5 .ensures .0) some (c .order-of .ensures .1 _ (first-run a _ _ (c .before .before .before .before .before .before .before .before .before .before .wide4 .ensures .0) (c .before .before .before .before .before .before .before .before .wide5 .ensures .0) some (c .before .before .before .before .before .wide6 .result) (c .before .before .before .before .before .wide6 .result + c .before .before .before .wide7 .result) (c .before .before .before .before .before .wide6 .ensures .0) (rw (c .before .before .before .wide7 .ensures .0) refl) .2))),
+  c .before .before .before .before .before .before .before .before .before .before .before .before .before .before .before .before .before .wide .ensures .0,
+  c .before .before .before .before .before .before .before .before .before .before .before .before .before .before .before .wide2 .ensures .0,
+)
 
 pub head-of-spec : {M : Type 1} → statement M
 head-of-spec =
