@@ -85,8 +85,8 @@ fn mark_shape(
     }
 }
 
-// The call rows of shape s from `since` on, where it unifies with the head of a clause: marks on the head, into the set. Says whether there are any.
-// What the two told when they met is noted.
+// The call rows of shape s from `since` on, where it unifies with the head of a clause: marks on the head, into the set. What comes of the two is noted.
+// Says whether there are such call rows, also where the two are apart, so that the shape comes to the head again and its note is taken.
 fn marks_of_shape<'a>(
     words: &'a [u16],
     dir: &'a [u16],
@@ -113,14 +113,15 @@ fn marks_of_shape<'a>(
     }
     let mut sets = [0u32; 32];
     if !meet_noting(words, dir, s, start, cells, &mut sets, unifiers) {
-        return false;
+        return true;
     }
     let here = first_variables(wide(dir[SHAPE_VARS + s]));
     mark_shape(table, newest, &sets, here, there, since, found);
     true
 }
 
-// All call rows from `since` on, to clause k, with notes of what their shapes and the head told. Says whether marks result.
+// All call rows from `since` on, to clause k: marks on its head, into the set, and a note of what comes of each shape and the head. Says whether there are
+// such call rows.
 pub fn mark_head<'a>(
     words: &'a [u16],
     dir: &'a [u16],

@@ -24,7 +24,7 @@ ghost use Rattle.ends.specs.Ends.{WithHead, Scratch, HeadNotes};
 ghost use Rattle.ends.specs.Keeping.{keptVars, Keeps};
 ghost use Rattle.joining.specs.KeptAnswers.{KeepsAnswers};
 
-// The words in which a fact notes what the shapes of its new call rows and its head told: they meet again where its marks go to the call rows. A pair
+// The words in which a fact notes what comes of its head and the shapes of its new call rows: they meet again where the marks go to these rows. A pair
 // for which there is no room is unified again.
 const UNIFIER_WORDS: usize = 448;
 
@@ -183,7 +183,7 @@ fn end_wide<'a>(
     rows
 }
 
-// The head of clause k, with words for notes of what shapes and it told.
+// The head of clause k, with words for the notes of what comes of it and shapes.
 fn end_noting<'a>(
     words: &'a [u16],
     dir: &'a [u16],

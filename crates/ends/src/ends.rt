@@ -13,8 +13,8 @@ ghost use Rattle.steps.specs.Heads.{HeadMark, Marked, Told};
 ghost use Rattle.joining.specs.KeptAnswers.{KeepsAnswers};
 ghost use Rattle.ends.specs.Ends.{HeadNotes};
 
-// Marks on the head of clause k that result from rows since `since`. Says whether there are any. For a clause without a body, what shapes and its head
-// told is noted.
+// Marks on the head of clause k that result from rows since `since`, into the set. Says whether there can be any. A clause without a body notes what comes
+// of shapes and its head.
 pub fn head_marks<'a>(
     words: &'a [u16],
     dir: &'a [u16],

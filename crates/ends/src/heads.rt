@@ -154,7 +154,7 @@ fn at_shape(
     )
 }
 
-// Shape s, where it has a call row from row `from` on and unifies with the head. What is noted of the two is not found out again.
+// Shape s, where it has a call row from row `from` on and unifies with the head. What is noted of the two is taken from the notes.
 fn of_shape<'a>(
     words: &'a [u16],
     dir: &'a [u16],
