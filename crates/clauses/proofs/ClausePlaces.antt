@@ -21,9 +21,12 @@ use Rattle.ends.specs.Ends.{WithHead}
 use Rattle.ends.proofs.ClauseRows.{first-index, end-after, last-suc}
 use Rattle.clauses.specs.Clauses.{MiddlesAsked, PastPlaces}
 
+pub none-over : {n room : ℕ} → room < n → n ≤ room → ⊥
+none-over over l = omega arith
+
 module _ (words dir table heads : List ℕ) (since rows k : ℕ) (w : HeadAsked words dir table heads since rows k)
     (start end : ℕ) (is-start : start ≡ getD dir (clauseFirst + k) 0) (is-end : end ≡ getD dir (clauseFirst + k + 1) 0) (some : 0 < length (w .clause .c .body)) where
-  abbrev pub middles-asked : MiddlesAsked words dir table heads since rows start (end - 1)
+  abbrev middles-asked : MiddlesAsked words dir table heads since rows start (end - 1)
   middles-asked =
       record {
         situation = w .situation;
@@ -34,6 +37,12 @@ module _ (words dir table heads : List ℕ) (since rows k : ℕ) (w : HeadAsked 
         first-is = is-start ∙ first-index words dir table heads since rows k w;
         last-is = omega (arith, end-after words dir table heads since rows k w start end is-start is-end);
       }
+
+-- a clause whose run of body atoms is not empty has one
+abbrev pub places-asked : (words dir table heads : List ℕ) (since rows k : ℕ) (w : HeadAsked words dir table heads since rows k) (start end : ℕ) → start ≡ getD dir (clauseFirst + k) 0
+    → end ≡ getD dir (clauseFirst + k + 1) 0 → start < end → MiddlesAsked words dir table heads since rows start (end - 1)
+places-asked words dir table heads since rows k w start end is-start is-end l =
+    middles-asked words dir table heads since rows k w start end is-start is-end (omega (arith, end-after words dir table heads since rows k w start end is-start is-end))
 
 module _ (words dir heads table₀ buckets₀ : List ℕ) (since rows round room n : ℕ) (l : rows ≤ n) (k : ℕ) (w : HeadAsked words dir table₀ heads since rows k) where
   abbrev q : Program

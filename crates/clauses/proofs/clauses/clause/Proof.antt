@@ -4,12 +4,13 @@ use borrow.Author.Needs.{needs}
 use mathlib.Core.Path.{_≡_, sym, ap, _∙_}
 use mathlib.Core.Logic.{inl, inr, ⊎-elim}
 use lib.ListN.{length, replicate}
+use Rattle.rows.specs.Rows.{keysOf}
 use Rattle.rows.specs.MaskSet.{setWords}
 use Rattle.steps.specs.Situation.{HeadAsked}
 use Rattle.steps.proofs.Stepping.{stepped-within, stepped-past}
 use Rattle.ends.proofs.ClauseRows.{clause-few, end-after, stands-on}
 use Rattle.ends.proofs.KeptMarks.{step-keeps, keeps-all}
-use Rattle.clauses.proofs.ClausePlaces.{middles-asked, Past, no-places, clause-ends}
+use Rattle.clauses.proofs.ClausePlaces.{places-asked, none-over, Past, no-places, clause-ends}
 use Rattle.joining.specs.KeptAnswers.{KeepsAnswers}
 use Rattle.clauses.proofs.clauses.clause.Statement.{statement}
 use Rattle.clauses.proofs.clauses.clause.Tie as tie
@@ -45,7 +46,7 @@ sub-middle-places : tie.Need-sub-middle-places
 sub-middle-places c = search needs
 
 middle-places-requires : tie.Need-middle-places-requires
-middle-places-requires c κs = let s = c .before .before .before .before .before .before .before .before .before .before .before .before .before .before .before .before .before .before .before .before in (middles-asked _ _ _ _ _ _ _ (s .pre .0) _ _ (c .before .before .before .before .before .before .before .before .wide .ensures .0) (c .before .before .before .before .before .before .wide2 .ensures .0) (omega (arith, c .before .before .before .before .before .if1 .taken, end-after _ _ _ _ _ _ _ (s .pre .0) _ _ (c .before .before .before .before .before .before .before .before .wide .ensures .0) (c .before .before .before .before .before .before .wide2 .ensures .0))), s .pre .1, s .pre .2, s .pre .3 .none-seen, s .pre .3 .all-answers, s .pre .5)
+middle-places-requires c κs = let s = c .before .before .before .before .before .before .before .before .before .before .before .before .before .before .before .before .before .before .before .before in let a = s .args in (places-asked (a .words .now) (a .dir .now) (a .table .now) (a .heads .now) (a .at .since) (a .at .rows) (a .k) (s .pre .0) (c .before .before .before .before .before .before .before .before .wide .result) (c .before .before .before .before .before .before .wide2 .result) (c .before .before .before .before .before .before .before .before .wide .ensures .0) (c .before .before .before .before .before .before .wide2 .ensures .0) (c .before .before .before .before .before .if1 .taken), s .pre .1, s .pre .2, s .pre .3 .none-seen, s .pre .3 .all-answers, s .pre .5)
 
 same-length : tie.Need-same-length
 same-length c = c .before .before .before .before .before .before .before .before .before .before .before .middle-places .kept .1 .1 .0
@@ -64,11 +65,15 @@ same-length-5 c = c .before .before .before .before .before .before .before .bef
 
 returns : tie.Need-returns
 returns c =
-    let s = c .before .before .before .before .before .before .before .before .before .before .before .before .before .before .before .before .before .before .before .before .before .before .before .before .before .before .before .before .before .before .before .before in (
-      record { none-seen = c .before .before .before .before .before .before .before .before .before .before .before .middle-places .ensures .0; all-answers = c .before .before .before .before .before .before .before .before .before .before .before .middle-places .kept .1 .1 .1 .1 .1 .1 .0 ∙ s .pre .3 .all-answers; none-found = s .pre .3 .none-found },
-      λ w. inr (stepped-past _ _ (s .args .at .number) _ _ _ _ _ _ _ _ (c .before .before .before .before .before .before .before .before .before .before .before .middle-places .ensures .1 (middles-asked _ _ _ _ _ _ _ w _ _ (c .before .before .before .before .before .before .before .before .before .before .before .before .before .before .before .before .before .before .before .before .wide .ensures .0) (c .before .before .before .before .before .before .before .before .before .before .before .before .before .before .before .before .before .before .wide2 .ensures .0) (omega (arith, c .before .before .before .before .before .before .before .before .before .before .before .before .before .before .before .before .before .if1 .taken, end-after _ _ _ _ _ _ _ w _ _ (c .before .before .before .before .before .before .before .before .before .before .before .before .before .before .before .before .before .before .before .before .wide .ensures .0) (c .before .before .before .before .before .before .before .before .before .before .before .before .before .before .before .before .before .before .wide2 .ensures .0))))) (c .if2 .taken)),
-      λ l. absurd (omega (arith, c .if2 .taken)),
-      λ l. absurd (omega (arith, c .if2 .taken)),
+    let s = c .before .before .before .before .before .before .before .before .before .before .before .before .before .before .before .before .before .before .before .before .before .before .before .before .before .before .before .before .before .before .before .before in
+    let a = s .args in
+    let step = c .before .before .before .before .before .before .before .before .before .before .before .middle-places in
+    let over = c .if2 .taken in (
+      record { none-seen = step .ensures .0; all-answers = step .kept .1 .1 .1 .1 .1 .1 .0 ∙ s .pre .3 .all-answers; none-found = s .pre .3 .none-found },
+      λ w. inr (stepped-past (w .situation .p) (keysOf (a .table .now) (a .at .rows)) (a .at .number) (a .at .room) (a .n) (step .result) (a .table .now) (a .buckets .now) (step .last .1 .1 .0) (step .last .1 .1 .1 .0) _
+          (step .ensures .1 (places-asked (a .words .now) (a .dir .now) (a .table .now) (a .heads .now) (a .at .since) (a .at .rows) (a .k) w (c .before .before .before .before .before .before .before .before .before .before .before .before .before .before .before .before .before .before .before .before .wide .result) (c .before .before .before .before .before .before .before .before .before .before .before .before .before .before .before .before .before .before .wide2 .result) (c .before .before .before .before .before .before .before .before .before .before .before .before .before .before .before .before .before .before .before .before .wide .ensures .0) (c .before .before .before .before .before .before .before .before .before .before .before .before .before .before .before .before .before .before .wide2 .ensures .0) (c .before .before .before .before .before .before .before .before .before .before .before .before .before .before .before .before .before .if1 .taken))) over),
+      λ l. absurd (none-over over l),
+      λ l. absurd (none-over over l),
     )
 
 -- the rows for the body atoms behind the first are there
@@ -77,11 +82,13 @@ past : (c : tie.Joined1) → (c .if1 .seen ≡ replicate setWords 0) × (length 
     × KeepsAnswers (c .before .before .before .before .before .before .before .before .before .before .before .before .before .before .before .args .words .now) (c .before .before .before .before .before .before .before .before .before .before .before .before .before .before .before .args .dir .now) (c .if1 .table) (c .if1 .noted) (c .before .before .before .before .before .before .before .before .before .before .before .before .before .before .before .args .at .rows)
 past c =
     let s = c .before .before .before .before .before .before .before .before .before .before .before .before .before .before .before in
+    let a = s .args in
     ⊎-elim
     (λ z. rw (z .18, z .19, z .20, z .21, z .22, z .23) (
       z .6 .ensures .0,
       z .6 .kept .1 .1 .1 .1 .1 .1 .0 ∙ s .pre .3 .all-answers,
-      λ w. stepped-within _ _ _ _ _ _ _ _ _ _ _ (z .6 .ensures .1 (middles-asked _ _ _ _ _ _ _ w _ _ (c .before .before .before .wide .ensures .0) (c .before .wide2 .ensures .0) (omega (arith, z .0 .taken, end-after _ _ _ _ _ _ _ w _ _ (c .before .before .before .wide .ensures .0) (c .before .wide2 .ensures .0))))) (z .17 .left),
+      λ w. stepped-within (w .situation .p) (keysOf (a .table .now) (a .at .rows)) (a .at .number) (a .at .room) (a .n) (z .6 .result) (a .table .now) (a .buckets .now) (z .6 .last .1 .1 .0) (z .6 .last .1 .1 .1 .0) _
+          (z .6 .ensures .1 (places-asked (a .words .now) (a .dir .now) (a .table .now) (a .heads .now) (a .at .since) (a .at .rows) (a .k) w (c .before .before .before .wide .result) (c .before .wide2 .result) (c .before .before .before .wide .ensures .0) (c .before .wide2 .ensures .0) (z .0 .taken))) (z .17 .left),
       z .6 .ensures .2 (z .17 .left),
     ))
     (λ z. rw (z .1, z .2, z .3, z .4, z .5, z .6) (
@@ -132,11 +139,17 @@ same-length-12 c =
 
 returns-2 : tie.Need-returns-2
 returns-2 c =
-    let s = c .before .before .before .before .before .before .before .before .before .before .before .before .before .before .before .before .before .before .before .before .before .before .before .before .before .before .before .before .before .before .before .before .before .before .before .before .before in (
-      c .before .before .before .before .before .before .before .before .before .before .before .before .before .before .end-clause .ensures .0,
-      λ w. let g = past (c .before .before .before .before .before .before .before .before .before .before .before .before .before .before .before .before .before .before .before .before .before .before) .2 w in clause-ends _ _ _ _ _ _ _ _ _ _ (s .pre .2) _ w _ _ _ g _ _ _ (c .before .before .before .before .before .before .before .before .before .before .before .before .before .before .end-clause .ensures .1 (stands-on _ _ _ _ _ _ _ _ _ _ (s .pre .2) _ w _ _ _ _ g)),
-      c .before .before .before .before .before .before .before .before .before .before .before .before .before .before .end-clause .ensures .2,
-      c .before .before .before .before .before .before .before .before .before .before .before .before .before .before .end-clause .ensures .3,
+    let s = c .before .before .before .before .before .before .before .before .before .before .before .before .before .before .before .before .before .before .before .before .before .before .before .before .before .before .before .before .before .before .before .before .before .before .before .before .before in
+    let a = s .args in
+    let m = c .before .before .before .before .before .before .before .before .before .before .before .before .before .before .before .before .before .before .before .before .before .before .if1 in
+    let step = c .before .before .before .before .before .before .before .before .before .before .before .before .before .before .end-clause in (
+      step .ensures .0,
+      λ w.
+          let g = past (c .before .before .before .before .before .before .before .before .before .before .before .before .before .before .before .before .before .before .before .before .before .before) .2 w in
+          clause-ends (a .words .now) (a .dir .now) (a .heads .now) (a .table .now) (a .buckets .now) (a .at .since) (a .at .rows) (a .at .number) (a .at .room) (a .n) (s .pre .2) (a .k) w (m .rows) (m .table) (m .buckets) g (step .result) (step .last .1 .1 .0) (step .last .1 .1 .1 .0)
+          (step .ensures .1 (stands-on _ _ _ _ _ _ _ _ _ _ (s .pre .2) _ w _ _ _ _ g)),
+      step .ensures .2,
+      step .ensures .3,
     )
 
 pub clause-spec : {M : Type 1} → statement M

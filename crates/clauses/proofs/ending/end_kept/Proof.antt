@@ -4,23 +4,20 @@ use native.Mathlib.Omega.{arith}
 use borrow.Author.Needs.{needs}
 use mathlib.Core.Path.{_≡_, refl, ap, _∙_}
 use mathlib.Core.Logic.{⊎-elim}
-use mathlib.Core.List.{List·Memᴰ}
-use lib.ListN.{length, getD, take, drop, replicate, length-replicate}
+use lib.ListN.{length, getD, take, drop, replicate, length-replicate, length-set}
 use Rattle.directory.specs.Layout.{clauseVars}
-use Rattle.rows.specs.Rows.{keysOf}
 use Rattle.rows.specs.MaskSet.{setWords}
-use Rattle.rows.proofs.ClearedMarks.{marks-shifted, cleared-empty}
+use Rattle.rows.proofs.ClearedMarks.{marks-shifted}
 use Rattle.steps.specs.Situation.{HeadAsked}
 use Rattle.steps.specs.Heads.{HeadMark, Marked, FoundOn}
-use Rattle.table.proofs.Added.{behind-keeps}
-use Rattle.steps.proofs.Stepping.{keys-stay, grew-none, stepped-then, stepped-must, stepped-within}
 use Rattle.ends.specs.AtHead.{AtHead}
-use Rattle.ends.specs.Keeping.{keptSet, knownOf}
+use Rattle.ends.specs.Keeping.{knownOf}
 use Rattle.ends.proofs.ClauseRows.{clause-few, vars-few, asked-since}
-use Rattle.ends.proofs.HeadMarks.{marked-empty, mark-below}
-use Rattle.ends.proofs.KeptMarks.{few-masks, kept-on, keeps-all, keeping-stays}
-use Rattle.ends.proofs.Endings.{new-all, new-none, known-ends, known-keeps}
-use Rattle.joining.proofs.KeptPlaces.{step-keeps-answers, keeps-answers}
+use Rattle.ends.proofs.HeadMarks.{marked-empty}
+use Rattle.ends.proofs.KeptMarks.{kept-on}
+use Rattle.ends.proofs.Endings.{new-all, new-none}
+use Rattle.clauses.proofs.HeadSteps.{answers-after}
+use Rattle.clauses.proofs.KeptEnds.{kept-room, kept-fits, kept-cleared, kept-stepped, kept-after}
 use Rattle.clauses.proofs.ending.end_kept.Statement.{statement}
 use Rattle.clauses.proofs.ending.end_kept.Tie as tie
 
@@ -119,13 +116,13 @@ narrow-requires : tie.Need-narrow-requires
 narrow-requires c κs = omega (arith, c .before .before .before .before .before .before .before .before .before .before .before .before .before .before .before .before .before .before .before .before .before .before .before .before .before .before .before .before .before .before .before .before .before .before .before .before .before .before .before .before .before .before .before .before .before .before .before .before .before .before .before .before .before .before .before .before .before .before .before .before .before .before .before .before .before .before .before .before .pre .0 .situation .chains .most)
 
 add-kept : tie.Need-add-kept
-add-kept c = let s = c .before .before .before .before .before .before .before .before .before .before .before .before .before .before .before .before .before .before .before .before .before .before .before .before .before .before .before .before .before .before .before .before .before .before .before .before .before .before .before .before .before .before .before .before .before .before .before .before .before .before .before .before .before .before .before .before .before .before .before .before .before .before .before .before .before .before .before .before .before in let w = s .pre .0 in let few = clause-few _ _ _ _ _ _ _ w in omega (arith, few .0, few .1, s .pre .4 (w .situation .p) (w .situation .setting) .size)
+add-kept c = kept-fits _ (clause-few _ _ _ _ _ _ _ (c .before .before .before .before .before .before .before .before .before .before .before .before .before .before .before .before .before .before .before .before .before .before .before .before .before .before .before .before .before .before .before .before .before .before .before .before .before .before .before .before .before .before .before .before .before .before .before .before .before .before .before .before .before .before .before .before .before .before .before .before .before .before .before .before .before .before .before .before .before .pre .0) .0) .0
 
 mul-kept : tie.Need-mul-kept
-mul-kept c = let s = c .before .before .before .before .before .before .before .before .before .before .before .before .before .before .before .before .before .before .before .before .before .before .before .before .before .before .before .before .before .before .before .before .before .before .before .before .before .before .before .before .before .before .before .before .before .before .before .before .before .before .before .before .before .before .before .before .before .before .before .before .before .before .before .before .before .before .before .before .before in let w = s .pre .0 in let few = clause-few _ _ _ _ _ _ _ w in omega (arith, few .0, few .1, s .pre .4 (w .situation .p) (w .situation .setting) .size)
+mul-kept c = kept-fits _ (clause-few _ _ _ _ _ _ _ (c .before .before .before .before .before .before .before .before .before .before .before .before .before .before .before .before .before .before .before .before .before .before .before .before .before .before .before .before .before .before .before .before .before .before .before .before .before .before .before .before .before .before .before .before .before .before .before .before .before .before .before .before .before .before .before .before .before .before .before .before .before .before .before .before .before .before .before .before .before .pre .0) .0) .1
 
 slice-write-kept : tie.Need-slice-write-kept
-slice-write-kept c = let s = c .before .before .before .before .before .before .before .before .before .before .before .before .before .before .before .before .before .before .before .before .before .before .before .before .before .before .before .before .before .before .before .before .before .before .before .before .before .before .before .before .before .before .before .before .before .before .before .before .before .before .before .before .before .before .before .before .before .before .before .before .before .before .before .before .before .before .before .before .before in let w = s .pre .0 in let few = clause-few _ _ _ _ _ _ _ w in omega (arith, few .0, few .1, s .pre .4 (w .situation .p) (w .situation .setting) .size)
+slice-write-kept c = let s = c .before .before .before .before .before .before .before .before .before .before .before .before .before .before .before .before .before .before .before .before .before .before .before .before .before .before .before .before .before .before .before .before .before .before .before .before .before .before .before .before .before .before .before .before .before .before .before .before .before .before .before .before .before .before .before .before .before .before .before .before .before .before .before .before .before .before .before .before .before in let w = s .pre .0 in kept-room _ _ _ (clause-few _ _ _ _ _ _ _ w .0) (s .pre .4 (w .situation .p) (w .situation .setting) .size) (c .before .before .before .before .before .before .before .keep .kept .1 .1 .0)
 
 same-length : tie.Need-same-length
 same-length c = c .before .before .before .before .before .before .before .before .before .before .before .before .before .before .before .before .before .before .before .before .at-head .kept .1 .1 .0
@@ -143,7 +140,7 @@ same-length-5 : tie.Need-same-length-5
 same-length-5 c = c .before .before .before .clear .kept .0 ∙ c .before .before .before .before .before .before .before .before .before .before .before .before .before .before .before .before .before .before .before .before .before .before .before .before .before .before .before .before .before .before .before .before .new-marks .kept .1 .1 .0 ∙ c .before .before .before .before .before .before .before .before .before .before .before .before .before .before .before .before .before .before .before .before .before .before .before .before .before .before .before .before .before .before .before .before .before .before .before .before .before .before .before .before .before .before .before .before .before .head-marks .kept .1 .1 .1 .1 .1 .1 .1 .1 .1 .0
 
 same-length-6 : tie.Need-same-length-6
-same-length-6 c = search needs
+same-length-6 c = length-set (c .before .before .before .before .before .before .before .keep .last .1 .1 .0) _ _ ∙ c .before .before .before .before .before .before .before .keep .kept .1 .1 .0
 
 same-length-7 : tie.Need-same-length-7
 same-length-7 c = c .before .before .before .before .before .before .before .before .before .before .before .before .before .before .before .before .before .before .before .before .before .before .before .before .before .before .before .before .before .before .before .before .before .before .before .before .before .before .before .before .before .before .before .before .before .head-marks .kept .1 .1 .1 .1 .1 .1 .1 .1 .1 .1 .0
@@ -154,28 +151,23 @@ same-length-8 c = c .before .before .before .before .before .before .before .bef
 returns : tie.Need-returns
 returns c =
     let s = c .before .before .before .before .before .before .before .before .before .before .before .before .before .before .before .before .before .before .before .before .before .before .before .before .before .before .before .before .before .before .before .before .before .before .before .before .before .before .before .before .before .before .before .before .before .before .before .before .before .before .before .before .before .before .before .before .before .before .before .before .before .before .before .before .before .before .before .before .before in
-    let kept = s .pre .4 (s .pre .0 .situation .p) (s .pre .0 .situation .setting) in (
+    let a = s .args in
+    let w₀ = s .pre .0 in
+    let known = c .before .before .before .before .before .before .before .before .before .before .before .before .before .before .before .before .before .before .before .before .before .before .before .before .before .before .before .before .before .before .before .before .before .before .before .before .before .before .before .before .before .before .before .before .before .before .before .before .before .before .before .before .if1 .known in
+    let found = c .before .before .before .before .before .before .before .before .before .before .before .before .before .before .before .before .before .before .before .before .before .before .before .before .before .before .before .before .before .before .before .before .before .before .before .before .before .before .before .before .before .before .before .before .before .head-marks .last .1 .1 .1 .1 .1 .1 .1 .1 .1 .0 in
+    let new = c .before .before .before .before .before .before .before .before .before .before .before .before .before .before .before .before .before .before .before .before .before .before .before .before .before .before .before .before .before .before .before .before .new-marks in
+    let step = c .before .before .before .before .before .before .before .before .before .before .before .before .before .before .before .before .before .before .before .before .at-head in (
       record {
-        none-seen = c .before .before .before .before .before .before .before .before .before .before .before .before .before .before .before .before .before .before .before .before .at-head .ensures .0;
-        all-answers = c .before .before .before .before .before .before .before .before .before .before .before .before .before .before .before .before .before .before .before .before .at-head .kept .1 .1 .1 .1 .1 .1 .0 ∙ c .before .before .before .before .before .before .before .before .before .before .before .before .before .before .before .before .before .before .before .before .before .before .before .before .before .before .before .before .before .before .before .before .before .before .before .before .before .before .before .before .before .before .before .before .before .head-marks .kept .1 .1 .1 .1 .1 .0 ∙ s .pre .3 .all-answers;
-        none-found = c .before .before .before .clear .ensures ∙ cleared-empty (c .before .before .before .before .before .before .before .before .before .before .before .before .before .before .before .before .before .before .before .before .before .before .before .before .before .before .before .before .before .before .before .before .new-marks .last .1 .1 .0) keptSet (c .before .before .before .before .before .before .before .before .before .before .before .before .before .before .before .before .before .before .before .before .before .before .before .before .before .before .before .before .before .before .before .before .new-marks .ensures .0 .size ∙ marks-found (c .before .before .before .before .before .before .before .before .before .before .before .before .before .before .before .before .before .before .before .before .before .before .before .before .before .before .before .before .before) (s .pre .0) .size) (omega arith) (λ i. c .before .before .before .before .before .before .before .before .before .before .before .before .before .before .before .before .before .before .before .before .before .before .before .before .before .before .before .before .before .before .slice-known15 .given i .fits)
-            (λ q h. omega (arith, few-masks _ _ _ _ _ _ _ (s .pre .0) _ kept (s .pre .6) _ _ refl refl, mark-below _ _ _ _ _ _ _ (s .pre .0) _ _ q (collected (c .before .before .before .before .before .before .before .before .before .before .before .before .before .before .before .before .before .before .before .before .before .before .before .before .before .before .before .before .before) (s .pre .0) .result q h)));
+        none-seen = step .ensures .0;
+        all-answers = step .kept .1 .1 .1 .1 .1 .1 .0 ∙ c .before .before .before .before .before .before .before .before .before .before .before .before .before .before .before .before .before .before .before .before .before .before .before .before .before .before .before .before .before .before .before .before .before .before .before .before .before .before .before .before .before .before .before .before .before .head-marks .kept .1 .1 .1 .1 .1 .0 ∙ s .pre .3 .all-answers;
+        none-found = c .before .before .before .clear .ensures ∙ kept-cleared (a .words .now) (a .dir .now) (a .table .now) (a .heads .now) (a .at .since) (a .at .rows) (a .k) w₀ (a .kept .now) (a .n) (s .pre .4) (s .pre .6) known (early (c .before .before .before .before .before .before .before .before .before .before .before .before .before .before .before .before .before .before .before .before .before .before .before .before .before .before .before .before .before .before .before .before .before .before .before .before .before .before .before .before .before .before .before .before .before .before .before .before .before .before .before .before)) found (new .last .1 .1 .0) (marks-found (c .before .before .before .before .before .before .before .before .before .before .before .before .before .before .before .before .before .before .before .before .before .before .before .before .before .before .before .before .before) w₀) (new .ensures .0) (c .before .before .before .before .before .before .before .before .before .before .before .before .before .before .before .before .before .before .before .before .before .before .before .before .before .before .before .before .before .if2 .marks) (collected (c .before .before .before .before .before .before .before .before .before .before .before .before .before .before .before .before .before .before .before .before .before .before .before .before .before .before .before .before .before) w₀) (λ i. c .before .before .before .before .before .before .before .before .before .before .before .before .before .before .before .before .before .before .before .before .before .before .before .before .before .before .before .before .before .before .slice-known15 .given i .fits);
       },
-      λ w. stepped-must _ _ (s .args .at .number) _ _ _ _ _ _ _ _ _
-          (known-ends _ _ _ _ _ _ _ w _ (s .pre .4 (w .situation .p) (w .situation .setting)) (s .pre .6) _ _ refl refl _ (early (c .before .before .before .before .before .before .before .before .before .before .before .before .before .before .before .before .before .before .before .before .before .before .before .before .before .before .before .before .before .before .before .before .before .before .before .before .before .before .before .before .before .before .before .before .before .before .before .before .before .before .before .before) .1) _ _ (marks-found (c .before .before .before .before .before .before .before .before .before .before .before .before .before .before .before .before .before .before .before .before .before .before .before .before .before .before .before .before .before) w) (c .before .before .before .before .before .before .before .before .before .before .before .before .before .before .before .before .before .before .before .before .before .before .before .before .before .before .before .before .before .before .before .before .new-marks .ensures .0) (early (c .before .before .before .before .before .before .before .before .before .before .before .before .before .before .before .before .before .before .before .before .before .before .before .before .before .before .before .before .before .before .before .before .before .before .before .before .before .before .before .before .before .before .before .before .before .before .before .before .before .before .before .before) .0))
-          (stepped-then _ _ (s .args .at .number) _ _ _ _ _ _ _ _ _ _ _ _
-          (grew-none _ _ (s .args .at .number) _ (s .args .n) _ _ (λ key. List·Memᴰ key (keysOf (s .args .table .now) (s .args .n))) (s .pre .1) (λ key m. m))
-          (c .before .before .before .before .before .before .before .before .before .before .before .before .before .before .before .before .before .before .before .before .at-head .ensures .1 (asked (c .before .before .before .before .before .before .before .before .before .before .before .before .before .before .before .before .before .before .before .before .before .before .before .before .before .before .before .before .before) w))),
-      λ l.
-          let w = s .pre .0 in
-          let g = stepped-within _ _ (s .args .at .number) _ _ _ _ _ _ _ _ (c .before .before .before .before .before .before .before .before .before .before .before .before .before .before .before .before .before .before .before .before .at-head .ensures .1 (asked (c .before .before .before .before .before .before .before .before .before .before .before .before .before .before .before .before .before .before .before .before .before .before .before .before .before .before .before .before .before) w)) l in
-          keeps-all _ _ _ (c .before .before .before .before .before .before .before .before .before .before .before .before .before .before .before .before .before .before .before .before .at-head .result) (w .situation .setting)
-          (keeping-stays _ (s .args .table .now) _ _ _ (keysOf (c .before .before .before .before .before .before .before .before .before .before .before .before .before .before .before .before .before .before .before .before .at-head .last .1 .1 .0) (c .before .before .before .before .before .before .before .before .before .before .before .before .before .before .before .before .before .before .before .before .at-head .result)) _ (λ m b. keys-stay _ _ (s .args .n) m (omega (arith, s .pre .2)) (g .same-rows)) (λ key h. h)
-          (rw (c .narrow .ensures) (known-keeps _ _ _ _ _ _ _ w _ kept (s .pre .6) _ _ refl refl _ (early (c .before .before .before .before .before .before .before .before .before .before .before .before .before .before .before .before .before .before .before .before .before .before .before .before .before .before .before .before .before .before .before .before .before .before .before .before .before .before .before .before .before .before .before .before .before .before .before .before .before .before .before .before) .1) _ _ (marks-found (c .before .before .before .before .before .before .before .before .before .before .before .before .before .before .before .before .before .before .before .before .before .before .before .before .before .before .before .before .before) w) (c .before .before .before .before .before .before .before .before .before .before .before .before .before .before .before .before .before .before .before .before .before .before .before .before .before .before .before .before .before .before .before .before .new-marks .ensures .0) _ _ (c .before .before .before .before .before .before .before .keep .ensures) (behind-keeps _ _ _ (g .behind)) (g .all)))),
-      λ l.
-          let w = s .pre .0 in
-          keeps-answers _ _ _ (w .situation .setting)
-          (step-keeps-answers _ _ (s .args .at .number) _ _ _ _ _ _ _ _ _ _ (s .pre .2) (c .before .before .before .before .before .before .before .before .before .before .before .before .before .before .before .before .before .before .before .before .at-head .ensures .1 (asked (c .before .before .before .before .before .before .before .before .before .before .before .before .before .before .before .before .before .before .before .before .before .before .before .before .before .before .before .before .before) w)) l (c .before .before .before .before .before .before .before .before .before .before .before .before .before .before .before .before .before .before .before .before .before .before .before .before .before .before .before .before .before .before .before .before .before .before .before .before .before .before .before .before .before .before .before .before .before .head-marks .ensures .1 (w .situation .p) (w .situation .setting))),
+      λ w. kept-stepped (a .words .now) (a .dir .now) (a .table .now) (a .heads .now) (a .at .since) (a .at .rows) (a .k) w (a .kept .now) (a .n) (s .pre .4) (s .pre .6) known (early (c .before .before .before .before .before .before .before .before .before .before .before .before .before .before .before .before .before .before .before .before .before .before .before .before .before .before .before .before .before .before .before .before .before .before .before .before .before .before .before .before .before .before .before .before .before .before .before .before .before .before .before .before)) found (new .last .1 .1 .0) (marks-found (c .before .before .before .before .before .before .before .before .before .before .before .before .before .before .before .before .before .before .before .before .before .before .before .before .before .before .before .before .before) w) (new .ensures .0)
+          (a .buckets .now) (a .at .number) (a .at .room) (step .result) (step .last .1 .1 .0) (step .last .1 .1 .1 .0) (step .ensures .1 (asked (c .before .before .before .before .before .before .before .before .before .before .before .before .before .before .before .before .before .before .before .before .before .before .before .before .before .before .before .before .before) w)) (s .pre .1),
+      λ l. kept-after (a .words .now) (a .dir .now) (a .table .now) (a .heads .now) (a .at .since) (a .at .rows) (a .k) w₀ (a .kept .now) (a .n) (s .pre .4) (s .pre .6) known (early (c .before .before .before .before .before .before .before .before .before .before .before .before .before .before .before .before .before .before .before .before .before .before .before .before .before .before .before .before .before .before .before .before .before .before .before .before .before .before .before .before .before .before .before .before .before .before .before .before .before .before .before .before)) found (new .last .1 .1 .0) (marks-found (c .before .before .before .before .before .before .before .before .before .before .before .before .before .before .before .before .before .before .before .before .before .before .before .before .before .before .before .before .before) w₀) (new .ensures .0)
+          (a .buckets .now) (a .at .number) (a .at .room) (step .result) (step .last .1 .1 .0) (step .last .1 .1 .1 .0) (step .ensures .1 (asked (c .before .before .before .before .before .before .before .before .before .before .before .before .before .before .before .before .before .before .before .before .before .before .before .before .before .before .before .before .before) w₀)) (s .pre .2) l (c .before .before .before .before .before .before .before .keep .last .1 .1 .0) (c .before .before .before .before .before .before .before .keep .ensures) (c .narrow .result) (c .narrow .ensures),
+      λ l. answers-after (a .words .now) (a .dir .now) (a .table .now) (a .heads .now) (a .at .since) (a .at .rows) (a .k) w₀ (a .buckets .now) (a .at .number) (a .at .room) (a .n) (step .result) (step .last .1 .1 .0) (step .last .1 .1 .1 .0)
+          (s .pre .2) l (step .ensures .1 (asked (c .before .before .before .before .before .before .before .before .before .before .before .before .before .before .before .before .before .before .before .before .before .before .before .before .before .before .before .before .before) w₀)) (c .before .before .before .before .before .before .before .before .before .before .before .before .before .before .before .before .before .before .before .before .before .before .before .before .before .before .before .before .before .before .before .before .before .before .before .before .before .before .before .before .before .before .before .before .before .head-marks .last .1 .1 .1 .1 .1 .1 .1 .1 .1 .1 .0) (c .before .before .before .before .before .before .before .before .before .before .before .before .before .before .before .before .before .before .before .before .before .before .before .before .before .before .before .before .before .before .before .before .before .before .before .before .before .before .before .before .before .before .before .before .before .head-marks .ensures .1),
     )
 
 pub end-kept-spec : {M : Type 1} → statement M
