@@ -42,6 +42,12 @@ pub record Shaped (p : Program) (table : List ℕ) (A : Term) (from since rows l
   pub links : Link (shapes p) (predicateOf A) k link
   pub sided : Sided (AnswerBefore p table A from rows k) since rows seen answers fresh older
 
+-- the same by other names of the link, the lists and the counts
+pub shaped-as : {p : Program} {table : List ℕ} {A : Term} {from since rows link link′ : ℕ} {seen seen′ answers answers′ : List ℕ} {fresh fresh′ older older′ : ℕ}
+    → link ≡ link′ → seen ≡ seen′ → answers ≡ answers′ → (fresh ≡ fresh′) × (older ≡ older′) → Shaped p table A from since rows link′ seen′ answers′ fresh′ older′
+    → Shaped p table A from since rows link seen answers fresh older
+shaped-as l s a (f, o) k = rw (l, s, a, f, o) k
+
 module _ {words dir table heads : List ℕ} {j since rows : ℕ} (w : Situation words dir table heads since rows) (b : BodyOf (w .p) j) where
   abbrev start : ℕ
   start = getD dir (bodyStart + j) 0

@@ -1,5 +1,6 @@
 -- The laws of rule 2: answers listed once each, and cont rows joined with them.
 pub mod Joining
+pub mod Offsets
 pub mod JoinSteps
 pub mod PlaceAnswers
 pub mod PlaceSteps

@@ -28,6 +28,10 @@ use Rattle.joining.specs.Joined.{ContMarks, SlotChain, Answered}
 use Rattle.steps.proofs.Bodies.{body-few}
 use Rattle.steps.proofs.SlotRows.{at-slot, in-slot, older-row}
 
+-- what is listed stands in the list
+pub listing-within : {seen answers : List ℕ} {count : ℕ} → Listing seen answers count → count ≤ length answers
+listing-within l = omega (arith, l .within, l .list-size)
+
 -- nothing is listed yet
 pub listing-none : (seen answers : List ℕ) → seen ≡ replicate setWords 0 → length answers ≡ 4096 → Listing seen answers 0
 listing-none seen answers zeros size =

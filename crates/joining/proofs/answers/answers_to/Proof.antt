@@ -2,12 +2,15 @@
 -- Assumes nothing.
 use native.Mathlib.Omega.{arith}
 use borrow.Author.Needs.{needs}
-use mathlib.Core.Path.{sym, _∙_}
+use mathlib.Core.Path.{sym, ap, _∙_}
 use mathlib.Core.Logic.{⊎-elim}
+use Rattle.directory.specs.Layout.{shapeNext}
+use Rattle.table.specs.Keys.{firstSolution}
 use Rattle.steps.specs.Situation.{Situation, BodyOf}
 use Rattle.steps.proofs.BodyAtoms.{number-below}
 use Rattle.steps.proofs.ShapeLinks.{shapesLeft, predicate-below, links-fall}
-use Rattle.joining.proofs.AnswersOfShapes.{declared, cells-some, cells-fit, argument-cells, atom-variables, Shaped, shaped-begins, shape-few, slot-there, met-asked, none-newer, shaped-met, shaped-goes-on, shaped-ends}
+use Rattle.joining.proofs.Offsets.{offset-fits, offset-bytes-fit, offset-within}
+use Rattle.joining.proofs.AnswersOfShapes.{shaped-as, declared, cells-some, cells-fit, argument-cells, atom-variables, Shaped, shaped-begins, shape-few, slot-there, met-asked, none-newer, shaped-met, shaped-goes-on, shaped-ends}
 use Rattle.joining.proofs.answers.answers_to.Statement.{statement}
 use Rattle.joining.proofs.answers.answers_to.Tie as tie
 
@@ -128,14 +131,14 @@ add-wide-4 c =
     let st = c .before .before .before .before .before .before .before .before .before .before .before .before .before .before .before .before .before .before in
     let W = st .pre .situation in
     let B = st .pre .body in
-    omega (arith, shape-few W B (c .before .loop .inv W B) (c .loop-test .taken))
+    offset-fits firstSolution (shape-few W B (c .before .loop .inv W B) (c .loop-test .taken)) tt
 
 mul-wide-5 : tie.Need-mul-wide-5 Inv-loop μ-loop
 mul-wide-5 c =
     let st = c .before .before .before .before .before .before .before .before .before .before .before .before .before .before .before .before .before .before in
     let W = st .pre .situation in
     let B = st .pre .body in
-    omega (arith, shape-few W B (c .before .loop .inv W B) (c .loop-test .taken))
+    offset-bytes-fit firstSolution (shape-few W B (c .before .loop .inv W B) (c .loop-test .taken)) tt
 
 shared-slice-read-wide-5 : tie.Need-shared-slice-read-wide-5 Inv-loop μ-loop
 shared-slice-read-wide-5 c =
@@ -162,21 +165,21 @@ add-wide-5 c =
     let st = c .before .before .before .before .before .before .before .before .before .before .before .before .before .before .before .before .before .before .before .before .before in
     let W = st .pre .situation in
     let B = st .pre .body in
-    omega (arith, shape-few W B (c .before .before .before .before .loop .inv W B) (c .before .before .before .loop-test .taken))
+    offset-fits shapeNext (shape-few W B (c .before .before .before .before .loop .inv W B) (c .before .before .before .loop-test .taken)) tt
 
 mul-wide-6 : tie.Need-mul-wide-6 Inv-loop μ-loop
 mul-wide-6 c =
     let st = c .before .before .before .before .before .before .before .before .before .before .before .before .before .before .before .before .before .before .before .before .before in
     let W = st .pre .situation in
     let B = st .pre .body in
-    omega (arith, shape-few W B (c .before .before .before .before .loop .inv W B) (c .before .before .before .loop-test .taken))
+    offset-bytes-fit shapeNext (shape-few W B (c .before .before .before .before .loop .inv W B) (c .before .before .before .loop-test .taken)) tt
 
 shared-slice-read-wide-6 : tie.Need-shared-slice-read-wide-6 Inv-loop μ-loop
 shared-slice-read-wide-6 c =
     let st = c .before .before .before .before .before .before .before .before .before .before .before .before .before .before .before .before .before .before .before .before .before .before in
     let W = st .pre .situation in
     let B = st .pre .body in
-    omega (arith, shape-few W B (c .before .before .before .before .before .loop .inv W B) (c .before .before .before .before .loop-test .taken), W .setting .directory .size)
+    offset-within shapeNext (shape-few W B (c .before .before .before .before .before .loop .inv W B) (c .before .before .before .before .loop-test .taken)) (W .setting .directory .size) tt
 
 wide-requires-6 : tie.Need-wide-requires-6 Inv-loop μ-loop
 wide-requires-6 c κs = search needs
@@ -190,16 +193,18 @@ loop-less c =
 loop-again : tie.Need-loop-again Inv-loop μ-loop
 loop-again c =
     let at = c .before .before .before .before .before .before in
+    let newest-is = c .before .before .before .wide5 .ensures .0 in
+    let next-is = c .wide6 .ensures .0 in
     let start-is = c .before .before .before .before .before .before .before .before .before .before .before .before .before .before .before .wide .ensures .0 in
     let cells-is = c .before .before .before .before .before .before .before .before .before .before .before .before .before .wide2 .ensures .0 in
     let there = c .before .before .before .before .before .before .before .before .before .before .before .variables-of in
     let more = c .before .before .before .before .before .loop-test .taken in
-    λ w b. rw (c .wide6 .ensures .0) (⊎-elim
-    (λ v. rw (v .8, v .9, v .10) (shaped-met w b (at .loop .inv w b) more (c .before .before .before .wide5 .ensures .0) start-is cells-is
+    λ w b. ⊎-elim
+    (λ v. shaped-as next-is (v .8) (v .9) (ap (λ x. x .fresh) (v .10), ap (λ x. x .older) (v .10)) (shaped-met w b (at .loop .inv w b) more newest-is start-is cells-is
     (atom-variables w b (there .result) (rw (start-is, cells-is) at (there .ensures))) (v .3 .ensures)))
-    (λ v. rw (v .1, v .2, v .3) (shaped-goes-on w b (at .loop .inv w b) more
-    (none-newer w b (at .loop .inv w b) more (rw (c .before .before .before .wide5 .ensures .0) at (v .0 .left)))))
-    (c .before .before .if1 .came))
+    (λ v. shaped-as next-is (v .1) (v .2) (ap (λ x. x .fresh) (v .3), ap (λ x. x .older) (v .3)) (shaped-goes-on w b (at .loop .inv w b) more
+    (none-newer w b (at .loop .inv w b) more (rw newest-is at (v .0 .left)))))
+    (c .before .before .if1 .came)
 
 same-length : tie.Need-same-length Inv-loop μ-loop
 same-length c =

@@ -7,7 +7,7 @@ use Rattle.joining.proofs.answers.of_met.Statement.{statement}
 use Rattle.joining.proofs.answers.of_met.Tie as tie
 
 meet-requires : tie.Need-meet-requires
-meet-requires c κs = search needs
+meet-requires c κs = c .before .before .before .before .before .before .pre .meeting
 
 add-wide : tie.Need-add-wide
 add-wide c =
@@ -32,10 +32,10 @@ of-shape-requires : tie.Need-of-shape-requires
 of-shape-requires c κs = asked (c .before .before .before .before .before .before .before .before .before .before .before .before .before .before .pre)
 
 same-length : tie.Need-same-length
-same-length c = search needs
+same-length c = c .before .before .before .before .of-shape .kept .1 .1 .1 .1 .1 .1 .1 .0
 
 same-length-2 : tie.Need-same-length-2
-same-length-2 c = search needs
+same-length-2 c = c .before .before .before .before .of-shape .kept .1 .1 .1 .1 .1 .1 .1 .1 .0
 
 returns : tie.Need-returns
 returns c =

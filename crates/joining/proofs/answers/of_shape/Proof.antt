@@ -5,7 +5,7 @@ use borrow.Author.Needs.{needs}
 use mathlib.Core.Path.{sym, _∙_}
 use mathlib.Core.Logic.{⊎-elim}
 use Rattle.joining.specs.AnswerSteps.{ShapeAsked, Walking}
-use Rattle.joining.proofs.AnswersOfShape.{walking-begins, row-read, next-falls, room, walking-older, walking-there, walking-new, walking-ends}
+use Rattle.joining.proofs.AnswersOfShape.{walking-as, walking-begins, row-read, next-falls, room, walking-older, walking-there, walking-new, walking-ends}
 use Rattle.joining.proofs.answers.of_shape.Statement.{statement}
 use Rattle.joining.proofs.answers.of_shape.Tie as tie
 
@@ -86,14 +86,15 @@ loop-less c =
 loop-again : tie.Need-loop-again Inv-loop μ-loop
 loop-again c =
     let at = c .before .before .before .before in
-    let passes = c .before .before .passed .ensures in
-    let mask-is = c .before .before .before .mask-at .ensures in
-    λ w. rw (c .before-at .ensures) (⊎-elim
-    (λ v. rw (v .1, v .2, v .3, v .4) (walking-older (w .shape) (at .before .loop .inv w) (at .loop-test .taken) (rw mask-is at (passes .1)) (passes .0) (v .0 .taken)))
+    let next-is = c .before-at .ensures in
+    let small = c .before .before .passed .ensures .0 in
+    let passes = rw (c .before .before .before .mask-at .ensures) at (c .before .before .passed .ensures .1) in
+    λ w. ⊎-elim
+    (λ v. walking-as next-is (v .1) (v .2) (v .3) (v .4) (walking-older (w .shape) (at .before .loop .inv w) (at .loop-test .taken) passes small (v .0 .taken)))
     (⊎-elim
-    (λ v. rw (v .6, v .7, v .8, v .9) (walking-new (w .shape) (at .before .loop .inv w) (at .loop-test .taken) (rw mask-is at (passes .1)) (passes .0) (v .0 .left) (v .2 .kept .0) (rw (v .5 .taken) at (v .2 .ensures))))
-    (λ v. rw (v .6, v .7, v .8, v .9) (walking-there (w .shape) (at .before .loop .inv w) (at .loop-test .taken) (rw mask-is at (passes .1)) (passes .0) (v .0 .left) (v .2 .kept .0) (rw (v .5 .left) at (v .2 .ensures)))))
-    (c .before .if1 .came))
+    (λ v. walking-as next-is (v .6) (v .7) (v .8) (v .9) (walking-new (w .shape) (at .before .loop .inv w) (at .loop-test .taken) passes small (v .0 .left) (v .2 .kept .0) (rw (v .5 .taken) at (v .2 .ensures))))
+    (λ v. walking-as next-is (v .6) (v .7) (v .8) (v .9) (walking-there (w .shape) (at .before .loop .inv w) (at .loop-test .taken) passes small (v .0 .left) (v .2 .kept .0) (rw (v .5 .left) at (v .2 .ensures)))))
+    (c .before .if1 .came)
 
 same-length : tie.Need-same-length Inv-loop μ-loop
 same-length c =

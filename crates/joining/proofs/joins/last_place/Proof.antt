@@ -1,19 +1,20 @@
 -- `last_place` meets its contract: what the place's cont rows make with the answers is what rule 2 makes with a new row. Assumes nothing.
-use native.Mathlib.Omega.{arith}
 use borrow.Author.Needs.{needs}
 use Prim.Native.Nat.{ℕ, suc}
 use mathlib.Core.Path.{sym, _∙_}
 use Rattle.steps.specs.Heads.{HeadMark}
 use Rattle.steps.proofs.MarkedSets.{marked-none}
-use Rattle.joining.proofs.PlaceSteps.{slot-there, no-head-marks, no-answer, conts-there, head-marked}
+use Rattle.table.specs.Keys.{firstCont}
+use Rattle.joining.proofs.Offsets.{offset-fits, offset-bytes-fit}
+use Rattle.joining.proofs.PlaceSteps.{slot-there, body-asked, no-head-marks, no-answer, conts-there, head-marked}
 use Rattle.joining.proofs.joins.last_place.Statement.{statement}
 use Rattle.joining.proofs.joins.last_place.Tie as tie
 
 add-wide : tie.Need-add-wide
-add-wide c = let m = c .before .before .before .before .before .before .before .before .pre .0 in omega (arith, slot-there (m .situation) (m .body) .1)
+add-wide c = let m = c .before .before .before .before .before .before .before .before .pre .0 in offset-fits firstCont (slot-there (m .situation) (m .body) .1) tt
 
 mul-wide : tie.Need-mul-wide
-mul-wide c = let m = c .before .before .before .before .before .before .before .before .pre .0 in omega (arith, slot-there (m .situation) (m .body) .1)
+mul-wide c = let m = c .before .before .before .before .before .before .before .before .pre .0 in offset-bytes-fit firstCont (slot-there (m .situation) (m .body) .1) tt
 
 shared-slice-read-wide : tie.Need-shared-slice-read-wide
 shared-slice-read-wide c = let m = c .before .before .before .before .before .before .before .before .before .pre .0 in slot-there (m .situation) (m .body) .0
@@ -32,16 +33,16 @@ returns c =
     )
 
 list-answers-requires : tie.Need-list-answers-requires
-list-answers-requires c κs = search needs
+list-answers-requires c κs = let pre = c .before .before .before .before .before .before .before .before .before .before .before .before .before .before .pre in (body-asked (pre .0 .situation) (pre .0 .body), pre .2, pre .3, pre .4)
 
 same-length : tie.Need-same-length
-same-length c = search needs
+same-length c = c .before .before .before .before .before .before .before .list-answers .kept .1 .1 .1 .1 .0
 
 same-length-2 : tie.Need-same-length-2
-same-length-2 c = search needs
+same-length-2 c = c .before .before .before .before .before .before .before .list-answers .kept .1 .1 .1 .1 .1 .0
 
 same-length-3 : tie.Need-same-length-3
-same-length-3 c = search needs
+same-length-3 c = c .before .before .before .before .before .before .before .list-answers .kept .1 .1 .1 .1 .1 .1 .0
 
 returns-2 : tie.Need-returns-2
 returns-2 c =
@@ -62,16 +63,16 @@ mark-conts-requires c κs =
     (rw (c .before .before .before .before .before .before .before .before .before .before .before .before .before .before .wide .ensures .0) (conts-there (m .situation) (m .body) _ _ _ (c .before .before .before .before .before .before .before .before .before .list-answers .ensures .1)), s .pre .1)
 
 same-length-4 : tie.Need-same-length-4
-same-length-4 c = search needs
+same-length-4 c = c .before .before .before .before .before .before .before .before .before .before .before .before .list-answers .kept .1 .1 .1 .1 .0
 
 same-length-5 : tie.Need-same-length-5
-same-length-5 c = search needs
+same-length-5 c = c .before .before .before .before .before .before .before .before .before .before .before .before .list-answers .kept .1 .1 .1 .1 .1 .0
 
 same-length-6 : tie.Need-same-length-6
-same-length-6 c = search needs
+same-length-6 c = c .before .before .before .before .before .before .before .before .before .before .before .before .list-answers .kept .1 .1 .1 .1 .1 .1 .0
 
 same-length-7 : tie.Need-same-length-7
-same-length-7 c = search needs
+same-length-7 c = c .before .before .mark-conts .kept .1 .1 .1 .1 .1 .1 .1 .0
 
 returns-3 : tie.Need-returns-3
 returns-3 c =

@@ -1,20 +1,24 @@
 -- `middle_place` meets its contract: what the place's cont rows make with the answers is what rule 2 makes with a new row, and goes on to the next
 -- atom; then nothing is seen. Assumes nothing.
 use Prim.Native.Nat.{ℕ}
-use native.Mathlib.Omega.{arith}
-use borrow.Author.Needs.{needs}
+use native.Mathlib.Nat.{le-add-right}
+use mir.Syntax.{w64}
+use borrow.Author.Needs.{needs, fits-under}
 use mathlib.Core.Path.{refl, sym, ap, _∙_}
+use Rattle.directory.specs.Layout.{bodyStart, bodyCells}
+use Rattle.table.specs.Keys.{firstCont}
 use lib.ListN.{length, replicate, length-replicate}
 use Rattle.rows.specs.MaskSet.{setWords}
-use Rattle.joining.proofs.PlaceSteps.{slot-there, next-few, next-run, no-next-rows, no-answers, conts-asked, next-rows}
+use Rattle.joining.proofs.Offsets.{offset-fits, offset-bytes-fit, offset-within, word-bytes-fit, words-fit}
+use Rattle.joining.proofs.PlaceSteps.{slot-there, body-asked, next-few, next-run, no-next-rows, no-answers, conts-asked, next-rows}
 use Rattle.joining.proofs.joins.middle_place.Statement.{statement}
 use Rattle.joining.proofs.joins.middle_place.Tie as tie
 
 add-wide : tie.Need-add-wide
-add-wide c = let m = c .before .before .before .before .before .before .before .before .pre .0 in omega (arith, slot-there (m .situation) (m .body) .1)
+add-wide c = let m = c .before .before .before .before .before .before .before .before .pre .0 in offset-fits firstCont (slot-there (m .situation) (m .body) .1) tt
 
 mul-wide : tie.Need-mul-wide
-mul-wide c = let m = c .before .before .before .before .before .before .before .before .pre .0 in omega (arith, slot-there (m .situation) (m .body) .1)
+mul-wide c = let m = c .before .before .before .before .before .before .before .before .pre .0 in offset-bytes-fit firstCont (slot-there (m .situation) (m .body) .1) tt
 
 shared-slice-read-wide : tie.Need-shared-slice-read-wide
 shared-slice-read-wide c = let m = c .before .before .before .before .before .before .before .before .before .pre .0 in slot-there (m .situation) (m .body) .0
@@ -28,19 +32,19 @@ returns c =
     (s .pre .3, s .pre .5, λ w b. no-next-rows w b _ _ _ _ (s .pre .1) (sym (c .before .wide .ensures .0) ∙ c .if1 .taken))
 
 list-answers-requires : tie.Need-list-answers-requires
-list-answers-requires c κs = search needs
+list-answers-requires c κs = let pre = c .before .before .before .before .before .before .before .before .before .before .before .before .before .before .before .pre in (body-asked (pre .0 .situation) (pre .0 .body), pre .3, pre .4, pre .5)
 
 same-length : tie.Need-same-length
-same-length c = search needs
+same-length c = refl
 
 same-length-2 : tie.Need-same-length-2
-same-length-2 c = search needs
+same-length-2 c = c .before .before .before .before .before .before .before .list-answers .kept .1 .1 .1 .1 .0
 
 same-length-3 : tie.Need-same-length-3
-same-length-3 c = search needs
+same-length-3 c = c .before .before .before .before .before .before .before .list-answers .kept .1 .1 .1 .1 .1 .0
 
 same-length-4 : tie.Need-same-length-4
-same-length-4 c = search needs
+same-length-4 c = c .before .before .before .before .before .before .before .list-answers .kept .1 .1 .1 .1 .1 .1 .0
 
 returns-2 : tie.Need-returns-2
 returns-2 c =
@@ -52,40 +56,40 @@ returns-2 c =
     )
 
 add-next : tie.Need-add-next
-add-next c = let m = c .before .before .before .before .before .before .before .before .before .before .before .before .before .before .before .before .before .before .before .before .before .before .before .pre .0 in let few = next-few (m .situation) (m .body) m in omega (arith, few .0, few .1)
+add-next c = let m = c .before .before .before .before .before .before .before .before .before .before .before .before .before .before .before .before .before .before .before .before .before .before .before .pre .0 in fits-under w64 _ _ (next-few (m .situation) (m .body) m .0) tt
 
 add-wide-2 : tie.Need-add-wide-2
-add-wide-2 c = let m = c .before .before .before .before .before .before .before .before .before .before .before .before .before .before .before .before .before .before .before .before .before .before .before .pre .0 in let few = next-few (m .situation) (m .body) m in omega (arith, few .0, few .1)
+add-wide-2 c = let m = c .before .before .before .before .before .before .before .before .before .before .before .before .before .before .before .before .before .before .before .before .before .before .before .pre .0 in offset-fits bodyStart (next-few (m .situation) (m .body) m .0) tt
 
 mul-wide-2 : tie.Need-mul-wide-2
-mul-wide-2 c = let m = c .before .before .before .before .before .before .before .before .before .before .before .before .before .before .before .before .before .before .before .before .before .before .before .pre .0 in let few = next-few (m .situation) (m .body) m in omega (arith, few .0, few .1)
+mul-wide-2 c = let m = c .before .before .before .before .before .before .before .before .before .before .before .before .before .before .before .before .before .before .before .before .before .before .before .pre .0 in offset-bytes-fit bodyStart (next-few (m .situation) (m .body) m .0) tt
 
 shared-slice-read-wide-2 : tie.Need-shared-slice-read-wide-2
-shared-slice-read-wide-2 c = let m = c .before .before .before .before .before .before .before .before .before .before .before .before .before .before .before .before .before .before .before .before .before .before .before .before .pre .0 in let few = next-few (m .situation) (m .body) m in omega (arith, few .0, few .1)
+shared-slice-read-wide-2 c = let m = c .before .before .before .before .before .before .before .before .before .before .before .before .before .before .before .before .before .before .before .before .before .before .before .before .pre .0 in let few = next-few (m .situation) (m .body) m in offset-within bodyStart (few .0) (few .1) tt
 
 wide-requires-2 : tie.Need-wide-requires-2
 wide-requires-2 c κs = search needs
 
 add-wide-3 : tie.Need-add-wide-3
-add-wide-3 c = let m = c .before .before .before .before .before .before .before .before .before .before .before .before .before .before .before .before .before .before .before .before .before .before .before .before .before .pre .0 in let few = next-few (m .situation) (m .body) m in omega (arith, few .0, few .1)
+add-wide-3 c = let m = c .before .before .before .before .before .before .before .before .before .before .before .before .before .before .before .before .before .before .before .before .before .before .before .before .before .pre .0 in offset-fits bodyCells (next-few (m .situation) (m .body) m .0) tt
 
 mul-wide-3 : tie.Need-mul-wide-3
-mul-wide-3 c = let m = c .before .before .before .before .before .before .before .before .before .before .before .before .before .before .before .before .before .before .before .before .before .before .before .before .before .pre .0 in let few = next-few (m .situation) (m .body) m in omega (arith, few .0, few .1)
+mul-wide-3 c = let m = c .before .before .before .before .before .before .before .before .before .before .before .before .before .before .before .before .before .before .before .before .before .before .before .before .before .pre .0 in offset-bytes-fit bodyCells (next-few (m .situation) (m .body) m .0) tt
 
 shared-slice-read-wide-3 : tie.Need-shared-slice-read-wide-3
-shared-slice-read-wide-3 c = let m = c .before .before .before .before .before .before .before .before .before .before .before .before .before .before .before .before .before .before .before .before .before .before .before .before .before .before .pre .0 in let few = next-few (m .situation) (m .body) m in omega (arith, few .0, few .1)
+shared-slice-read-wide-3 c = let m = c .before .before .before .before .before .before .before .before .before .before .before .before .before .before .before .before .before .before .before .before .before .before .before .before .before .before .pre .0 in let few = next-few (m .situation) (m .body) m in offset-within bodyCells (few .0) (few .1) tt
 
 wide-requires-3 : tie.Need-wide-requires-3
 wide-requires-3 c κs = search needs
 
 add-to : tie.Need-add-to
-add-to c = search needs
+add-to c = words-fit (c .before .before .wide2 .ensures .1) (c .wide3 .ensures .1)
 
 mul-order-of : tie.Need-mul-order-of
-mul-order-of c = search needs
+mul-order-of c = word-bytes-fit (c .before .before .wide2 .ensures .1)
 
 sub-order-of : tie.Need-sub-order-of
-sub-order-of c = search needs
+sub-order-of c = le-add-right _ _
 
 part-order-of-start : tie.Need-part-order-of-start
 part-order-of-start c = search needs
@@ -113,22 +117,22 @@ emit-conts-requires c κs =
     )
 
 zero-requires : tie.Need-zero-requires
-zero-requires c κs = search needs
+zero-requires c κs = tt
 
 same-length-5 : tie.Need-same-length-5
-same-length-5 c = search needs
+same-length-5 c = c .before .before .before .before .before .before .before .before .before .before .emit-conts .kept .1 .1 .1 .0
 
 same-length-6 : tie.Need-same-length-6
-same-length-6 c = search needs
+same-length-6 c = c .before .before .before .before .before .before .before .before .before .before .emit-conts .kept .1 .1 .1 .1 .0
 
 same-length-7 : tie.Need-same-length-7
-same-length-7 c = search needs
+same-length-7 c = c .before .before .zero .kept .0 ∙ (c .before .before .before .before .before .before .before .before .before .before .emit-conts .kept .1 .1 .1 .1 .1 .1 .1 .1 .1 .1 .1 .1 .0 ∙ c .before .before .before .before .before .before .before .before .before .before .before .before .before .before .before .before .before .before .before .before .before .before .before .before .before .before .before .before .before .before .list-answers .kept .1 .1 .1 .1 .0)
 
 same-length-8 : tie.Need-same-length-8
-same-length-8 c = search needs
+same-length-8 c = c .before .before .before .before .before .before .before .before .before .before .before .before .before .before .before .before .before .before .before .before .before .before .before .before .before .before .before .before .before .before .list-answers .kept .1 .1 .1 .1 .1 .0
 
 same-length-9 : tie.Need-same-length-9
-same-length-9 c = search needs
+same-length-9 c = c .before .before .before .before .before .before .before .before .before .before .before .before .before .before .before .before .before .before .before .before .before .before .before .before .before .before .before .before .before .before .list-answers .kept .1 .1 .1 .1 .1 .1 .0
 
 returns-3 : tie.Need-returns-3
 returns-3 c =

@@ -62,25 +62,25 @@ list-kept-requires c κs =
     )
 
 same-length : tie.Need-same-length
-same-length c = search needs
+same-length c = c .before .before .before .before .before .before .list-kept .kept .1 .1 .1 .1 .0
 
 same-length-2 : tie.Need-same-length-2
-same-length-2 c = search needs
+same-length-2 c = c .before .before .before .before .before .before .list-kept .kept .1 .1 .1 .1 .1 .0
 
 same-length-3 : tie.Need-same-length-3
-same-length-3 c = search needs
+same-length-3 c = c .before .before .before .before .before .before .list-kept .kept .1 .1 .1 .1 .1 .1 .0
 
 returns : tie.Need-returns
 returns c = c .before .before .before .before .before .before .list-kept .ensures
 
 list-anew-requires : tie.Need-list-anew-requires
-list-anew-requires c κs = search needs
+list-anew-requires c κs = let pre = c .before .before .before .before .before .before .before .before .before .before .pre in (pre .0, pre .1, pre .2)
 
 same-length-4 : tie.Need-same-length-4
-same-length-4 c = search needs
+same-length-4 c = c .before .before .before .before .list-anew .kept .1 .1 .1 .1 .0
 
 same-length-5 : tie.Need-same-length-5
-same-length-5 c = search needs
+same-length-5 c = c .before .before .before .before .list-anew .kept .1 .1 .1 .1 .1 .0
 
 returns-2 : tie.Need-returns-2
 returns-2 c = let listed = c .before .before .before .before .list-anew .ensures in (listed .0, listed .1, c .before .before .before .before .before .before .before .before .before .before .before .before .before .before .before .pre .3, listed .2)

@@ -1,12 +1,13 @@
 -- `list_kept` meets its contract: what rows that are not known yet give is put beside what is kept, and that is all. Assumes nothing.
 use Prim.Native.Nat.{_≤_}
+use native.Mathlib.Nat.{le-of-eq, le-of-lt, le-trans}
 use native.Mathlib.Omega.{arith}
 use borrow.Author.Needs.{needs}
 use mathlib.Core.Path.{ap, sym, _∙_}
 use mathlib.Core.Logic.{⊎-elim}
 use lib.ListN.{length, length-set}
 use Rattle.joining.specs.KeptAnswers.{answeredOf}
-use Rattle.joining.proofs.PlaceAnswers.{listing-none, since-known}
+use Rattle.joining.proofs.PlaceAnswers.{listing-none, listing-within, since-known}
 use Rattle.joining.proofs.KeptPlaces.{answer-own, keeps-answers, keeping-noted, known-noted, answered-new, answered-recalled}
 use Rattle.joining.proofs.listing.list_kept.Statement.{statement}
 use Rattle.joining.proofs.listing.list_kept.Tie as tie
@@ -26,7 +27,7 @@ wide-requires c κs = search needs
 answers-to-requires : tie.Need-answers-to-requires
 answers-to-requires c κs =
     let pre = c .before .before .before .before .before .before .before .before .before .before .before .before .pre in
-    record { situation = pre .0 .situation; body = pre .0 .body; ordered = ⊎-elim (λ v. omega (arith, v .1)) (λ v. omega (arith, v .0 .left, v .1)) (c .before .before .if1 .came); listing = listing-none _ _ (pre .1) (pre .2) }
+    record { situation = pre .0 .situation; body = pre .0 .body; ordered = ⊎-elim (λ v. le-of-eq (v .1)) (λ v. le-trans (le-of-eq (v .1)) (v .0 .left)) (c .before .before .if1 .came); listing = listing-none _ _ (pre .1) (pre .2) }
 
 settle-requires : tie.Need-settle-requires
 settle-requires c κs =
@@ -39,7 +40,7 @@ note-answers-requires c κs =
     record {
       A = pre .0 .body .A;
       kept = pre .0 .kept (pre .0 .situation) (pre .0 .body);
-      within = omega (arith, c .before .before .before .before .before .before .settle .ensures .listing .within, c .before .before .before .before .before .before .settle .ensures .listing .list-size);
+      within = listing-within (c .before .before .before .before .before .before .settle .ensures .listing);
       size = pre .3 (pre .0 .situation .p) (pre .0 .situation .setting) .size;
     }
 
@@ -58,7 +59,7 @@ recall-answers-requires c κs =
     let w = pre .0 .situation in
     let b = pre .0 .body in
     let found = c .before .before .before .before .before .before .before .before .before .before .before .before .before .before .settle .ensures in
-    let ordered : c .before .before .before .before .before .before .before .before .before .before .before .before .before .before .before .before .before .before .before .before .before .before .before .before .if1 .known ≤ c .before .before .before .before .before .before .before .before .before .before .before .before .before .before .before .before .before .before .before .before .before .before .before .before .before .before .before .before .before .before .before .before .before .before .args .since = ⊎-elim (λ v. omega (arith, v .1)) (λ v. omega (arith, v .0 .left, v .1)) (c .before .before .before .before .before .before .before .before .before .before .before .before .before .before .before .before .before .before .before .before .before .before .before .before .if1 .came) in
+    let ordered : c .before .before .before .before .before .before .before .before .before .before .before .before .before .before .before .before .before .before .before .before .before .before .before .before .if1 .known ≤ c .before .before .before .before .before .before .before .before .before .before .before .before .before .before .before .before .before .before .before .before .before .before .before .before .before .before .before .before .before .before .before .before .before .before .args .since = ⊎-elim (λ v. le-of-eq (v .1)) (λ v. le-trans (le-of-eq (v .1)) (v .0 .left)) (c .before .before .before .before .before .before .before .before .before .before .before .before .before .before .before .before .before .before .before .before .before .before .before .before .if1 .came) in
     record {
       A = b .A;
       kept = pre .0 .kept w b;
@@ -77,18 +78,18 @@ same-length-2 : tie.Need-same-length-2
 same-length-2 c = ⊎-elim (λ v. rw (v .10) (v .4 .ensures .listing .list-size ∙ sym (c .before .before .before .before .before .before .before .before .before .before .before .before .before .before .before .before .before .before .before .before .before .before .before .before .before .before .before .before .before .before .before .before .before .before .before .before .pre .2))) (λ v. rw (v .2) (c .before .before .before .before .before .before .before .before .before .before .before .before .before .before .before .before .settle .ensures .listing .list-size ∙ sym (c .before .before .before .before .before .before .before .before .before .before .before .before .before .before .before .before .before .before .before .before .before .before .before .before .before .before .before .before .before .before .before .before .before .before .before .before .pre .2))) (c .before .before .before .before .before .if2 .came)
 
 same-length-3 : tie.Need-same-length-3
-same-length-3 c = search needs
+same-length-3 c = rw length-set (c .before .before .before .before .before .before .before .before .before .note-answers .kept .1 .1 .1 .1 .1 .0)
 
 returns : tie.Need-returns
 returns c =
     let pre = c .before .before .before .before .before .before .before .before .before .before .before .before .before .before .before .before .before .before .before .before .before .before .before .before .before .before .before .before .before .before .before .before .before .before .before .before .pre in
     let found = c .before .before .before .before .before .before .before .before .before .before .before .before .before .before .before .before .settle .ensures in
-    let ordered : c .before .before .before .before .before .before .before .before .before .before .before .before .before .before .before .before .before .before .before .before .before .before .before .before .before .before .if1 .known ≤ c .before .before .before .before .before .before .before .before .before .before .before .before .before .before .before .before .before .before .before .before .before .before .before .before .before .before .before .before .before .before .before .before .before .before .before .before .args .since = ⊎-elim (λ v. omega (arith, v .1)) (λ v. omega (arith, v .0 .left, v .1)) (c .before .before .before .before .before .before .before .before .before .before .before .before .before .before .before .before .before .before .before .before .before .before .before .before .before .before .if1 .came) in
-    let early : c .before .before .before .before .before .before .before .before .before .before .before .before .before .before .before .before .before .before .before .before .before .before .before .before .before .before .if1 .known ≤ answeredOf (c .before .before .before .before .before .before .before .before .before .before .before .before .before .before .before .before .before .before .before .before .before .before .before .before .before .before .before .before .before .before .before .before .before .before .before .before .args .noted .now) (c .before .before .before .before .before .before .before .before .before .before .before .before .before .before .before .before .before .before .before .before .before .before .before .before .before .before .before .before .before .before .before .before .before .before .before .before .args .j) = ⊎-elim (λ v. omega (arith, v .0 .taken, v .1, c .before .before .before .before .before .before .before .before .before .before .before .before .before .before .before .before .before .before .before .before .before .before .before .before .before .before .before .wide .ensures .0)) (λ v. omega (arith, v .0 .left, v .1, c .before .before .before .before .before .before .before .before .before .before .before .before .before .before .before .before .before .before .before .before .before .before .before .before .before .before .before .wide .ensures .0)) (c .before .before .before .before .before .before .before .before .before .before .before .before .before .before .before .before .before .before .before .before .before .before .before .before .before .before .if1 .came) in (
+    let ordered : c .before .before .before .before .before .before .before .before .before .before .before .before .before .before .before .before .before .before .before .before .before .before .before .before .before .before .if1 .known ≤ c .before .before .before .before .before .before .before .before .before .before .before .before .before .before .before .before .before .before .before .before .before .before .before .before .before .before .before .before .before .before .before .before .before .before .before .before .args .since = ⊎-elim (λ v. le-of-eq (v .1)) (λ v. le-trans (le-of-eq (v .1)) (v .0 .left)) (c .before .before .before .before .before .before .before .before .before .before .before .before .before .before .before .before .before .before .before .before .before .before .before .before .before .before .if1 .came) in
+    let early : c .before .before .before .before .before .before .before .before .before .before .before .before .before .before .before .before .before .before .before .before .before .before .before .before .before .before .if1 .known ≤ answeredOf (c .before .before .before .before .before .before .before .before .before .before .before .before .before .before .before .before .before .before .before .before .before .before .before .before .before .before .before .before .before .before .before .before .before .before .before .before .args .noted .now) (c .before .before .before .before .before .before .before .before .before .before .before .before .before .before .before .before .before .before .before .before .before .before .before .before .before .before .before .before .before .before .before .before .before .before .before .before .args .j) = ⊎-elim (λ v. le-trans (le-of-eq (v .1)) (le-trans (le-of-lt (v .0 .taken)) (le-of-eq (c .before .before .before .before .before .before .before .before .before .before .before .before .before .before .before .before .before .before .before .before .before .before .before .before .before .before .before .wide .ensures .0)))) (λ v. le-of-eq (v .1 ∙ c .before .before .before .before .before .before .before .before .before .before .before .before .before .before .before .before .before .before .before .before .before .before .before .before .before .before .before .wide .ensures .0)) (c .before .before .before .before .before .before .before .before .before .before .before .before .before .before .before .before .before .before .before .before .before .before .before .before .before .before .if1 .came) in (
       c .before .before .forget .ensures,
       ⊎-elim
-          (λ v. rw (v .10, v .11) (record { few = omega (arith, found .more, v .4 .ensures .more); most = omega (arith, v .4 .ensures .listing .within, v .4 .ensures .listing .list-size) }))
-          (λ v. rw (v .2, v .3) (record { few = found .more; most = omega (arith, found .listing .within, found .listing .list-size) }))
+          (λ v. rw (v .10, v .11) (record { few = le-trans (found .more) (v .4 .ensures .more); most = listing-within (v .4 .ensures .listing) }))
+          (λ v. rw (v .2, v .3) (record { few = found .more; most = listing-within (found .listing) }))
           (c .before .before .before .before .before .if2 .came),
       let w = pre .0 .situation in
           let b = pre .0 .body in
