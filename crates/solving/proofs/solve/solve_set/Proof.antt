@@ -12,7 +12,7 @@ use Rattle.solving.proofs.solve.solve_set.Statement.{statement}
 use Rattle.solving.proofs.solve.solve_set.Tie as tie
 
 wide-requires : tie.Need-wide-requires
-wide-requires c κs = search needs
+wide-requires c κs = tt
 
 add-words : tie.Need-add-words
 add-words c = search needs
@@ -31,16 +31,16 @@ clear-requires-2 c κs =
     omega (arith, size, c .before .before .before .before .before .before .before .before .before .before .before .before .before .before .before .before .before .before .wide .ensures .1)
 
 same-length : tie.Need-same-length
-same-length c = search needs
+same-length c = c .before .before .before .before .before .before .before .before .before .before .before .before .solve-marks .kept .0
 
 same-length-2 : tie.Need-same-length-2
-same-length-2 c = search needs
+same-length-2 c = c .before .before .before .before .before .before .before .before .before .before .before .before .solve-marks .kept .1 .0
 
 same-length-3 : tie.Need-same-length-3
-same-length-3 c = search needs
+same-length-3 c = c .before .before .clear2 .kept .0 ∙ c .before .before .before .before .before .before .before .before .before .before .before .before .solve-marks .kept .1 .1 .1 .1 .1 .1 .1 .1 .1 .1 .1 .1 .0
 
 same-length-4 : tie.Need-same-length-4
-same-length-4 c = search needs
+same-length-4 c = c .before .before .before .before .before .before .before .before .before .before .before .before .solve-marks .kept .1 .1 .1 .1 .1 .1 .1 .1 .1 .1 .1 .1 .1 .0 ∙ c .before .before .before .before .before .before .before .before .before .before .before .before .before .before .before .before .before .before .before .clear .kept .0
 
 returns : tie.Need-returns
 returns c =

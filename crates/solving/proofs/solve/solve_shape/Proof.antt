@@ -1,6 +1,5 @@
 -- `solve_shape` meets its contract: the marks that are known go to the new call rows, where there are any, and then the others to all. Assumes nothing.
-use borrow.Author.Needs.{needs}
-use native.Mathlib.Omega.{arith}
+use native.Mathlib.Nat.{le-trans}
 use mathlib.Core.Path.{_≡_, sym, ap, _∙_}
 use mathlib.Core.Logic.{inr, ⊎-elim}
 use lib.ListN.{length, replicate}
@@ -12,19 +11,21 @@ use Rattle.solving.proofs.solve.solve_shape.Statement.{statement}
 use Rattle.solving.proofs.solve.solve_shape.Tie as tie
 
 solve-set-requires : tie.Need-solve-set-requires
-solve-set-requires c κs = search needs
+solve-set-requires c κs =
+    let (asked, writable, l, none-seen, size) = c .before .before .before .before .before .before .before .before .before .before .before .pre in
+    (record { to = asked .to; shape-sets = asked .shape-sets; found-for = asked .known-for; from-within = asked .to .chains .new }, writable, l, none-seen, size)
 
 same-length : tie.Need-same-length
-same-length c = search needs
+same-length c = c .before .before .before .before .before .before .before .before .before .solve-set .kept .0
 
 same-length-2 : tie.Need-same-length-2
-same-length-2 c = search needs
+same-length-2 c = c .before .before .before .before .before .before .before .before .before .solve-set .kept .1 .0
 
 same-length-3 : tie.Need-same-length-3
-same-length-3 c = search needs
+same-length-3 c = c .before .before .before .before .before .before .before .before .before .solve-set .kept .1 .1 .1 .1 .1 .1 .1 .1 .1 .1 .1 .1 .0
 
 same-length-4 : tie.Need-same-length-4
-same-length-4 c = search needs
+same-length-4 c = c .before .before .before .before .before .before .before .before .before .solve-set .kept .1 .1 .1 .1 .1 .1 .1 .1 .1 .1 .1 .1 .1 .0
 
 returns : tie.Need-returns
 returns c = (
@@ -54,7 +55,7 @@ solve-set-requires-2 c κs =
     let asked = c .before .before .before .before .before .before .before .before .before .before .before .pre .0 in
     let l = c .before .before .before .before .before .before .before .before .before .before .before .pre .2 in
     let g = grown asked in
-    (found-asked asked _ _ _ _ l g, g .writable, omega (arith, l, g .more), none-seen, size)
+    (found-asked asked _ _ _ _ l g, g .writable, le-trans l (g .more), none-seen, size)
 
 same-length-5 : tie.Need-same-length-5
 same-length-5 c = c .before .before .before .before .before .before .before .before .solve-set2 .kept .0 ∙ known (c .before .before .before .before .before .before .before .before .before .before .before .before .before) .2 (c .before .before .before .before .before .before .before .before .before .before .before .before .before .before .before .before .before .before .before .before .pre .0) .same-length
