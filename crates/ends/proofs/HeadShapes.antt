@@ -1,9 +1,11 @@
 -- The shapes of the predicate of a clause's head, one after another by their links: what the shapes before the link give is there.
-use Prim.Native.Nat.{ℕ, _+_, _-_, _≤_, _<_}
+use Prim.Native.Nat.{ℕ, _+_, _-_, _*_, _≤_, _<_}
 use native.Mathlib.Omega.{arith}
 use mathlib.Core.Path.{_≡_, sym, subst}
 use mathlib.Core.Logic.{_⊎_, inl, inr, ⊎-elim}
 use mathlib.Core.List.{List}
+use mir.Syntax.{w64}
+use mir.Val.{Fits}
 use lib.ListN.{length, getD}
 use Rattle.terms.specs.Term.{Term}
 use Rattle.terms.specs.Unifier.{Unifies}
@@ -11,13 +13,14 @@ use Rattle.marks.specs.Modes.{modes}
 use Rattle.program.specs.Program.{Nth, Clause, Program}
 use Rattle.program.specs.Shapes.{shapes}
 use Rattle.program.proofs.ShapeLaws.{nth-same}
-use Rattle.directory.specs.Layout.{shapeNext, predicateShape, maxShapes}
+use Rattle.directory.specs.Layout.{shapeNext, predicateShape}
 use Rattle.directory.specs.Directory.{Link, predicateOf}
 use Rattle.rows.specs.Rows.{keysOf}
 use Rattle.table.specs.Rules.{Row}
 use Rattle.table.specs.Steps.{Opens, opens}
 use Rattle.steps.specs.Steps.{Writable, Grew, Stepped}
 use Rattle.steps.specs.Heads.{SolvedOf, solved}
+use Rattle.steps.specs.Unifiers.{Notes}
 use Rattle.steps.proofs.Meetings.{setting-within, one-predicate}
 use Rattle.steps.proofs.Bodies.{head-is-atom}
 use Rattle.steps.proofs.ShapeAtoms.{shape-is-atom}
@@ -29,6 +32,10 @@ use Rattle.solving.proofs.SolveShape.{found-stays}
 use Rattle.solving.proofs.SolveSets.{stepped-on}
 use Rattle.ends.specs.AtHead.{ClauseAsked, HeadKnown, OfShape, ShapeGives, AtHead, HeadGives}
 use Rattle.ends.proofs.ClauseRows.{stands-on}
+
+-- the notes of a head are those of what stands where it stands
+pub notes-there : {words dir unifiers : List ℕ} {start start′ cells cells′ : ℕ} → start′ ≡ start → cells′ ≡ cells → Notes words dir start cells unifiers → Notes words dir start′ cells′ unifiers
+notes-there s c h = rw (s, c) h
 
 module _ {words dir table₀ heads known found : List ℕ} {since old k known-marks marks : ℕ} (a : AtHead words dir table₀ heads known found since old k known-marks marks) where
   abbrev p : Program
@@ -88,11 +95,15 @@ module _ {words dir table₀ heads known found : List ℕ} {since old k known-ma
         abbrev s : ℕ
         s = link - 1
 
-        pub along-few : s < maxShapes
-        along-few = link-below (a .head .situation .setting) (v .links) h
+        -- the entry of the shape's next link stands in the directory
+        pub along-there : Fits w64 (shapeNext + s) × Fits w64 ((shapeNext + s) * 2) × (shapeNext + s < length dir)
+        along-there =
+            let few = link-below (a .head .situation .setting) (v .links) h in
+            let size = a .head .situation .setting .directory .size in
+            (omega arith, omega arith, omega arith)
 
-        pub along-falls : shapesLeft (getD dir (shapeNext + s) 0) < shapesLeft link
-        along-falls = links-fall (a .head .situation .setting) (v .links) h
+        pub along-falls : {next : ℕ} → next ≡ getD dir (shapeNext + s) 0 → shapesLeft next < shapesLeft link
+        along-falls e = rw e (links-fall (a .head .situation .setting) (v .links) h)
 
         -- the shapes before the next link are those before this link, and this one
         at-link : (key : ℕ) → Below link key → Below (v .upto) key ⊎ Gives s key
@@ -112,6 +123,9 @@ module _ {words dir table₀ heads known found : List ℕ} {since old k known-ma
             }
 
         module _ (behind : old ≤ n) where
+          pub along-behind : old ≤ rows
+          along-behind = omega (arith, v .grew .more)
+
           abbrev pub along-shape : OfShape words dir order table heads known found start cells there first end count since old s from known-marks marks
           along-shape =
               record {
@@ -130,17 +144,19 @@ module _ {words dir table₀ heads known found : List ℕ} {since old k known-ma
               }
 
           module _ {r : ℕ} {table′ buckets′ : List ℕ}
-              (step : Stepped p (keysOf table old) round room rows table buckets (ShapeGives p (keysOf table since) (keysOf table old) k known found s) r table′ buckets′) where
+              (step : (o : OfShape words dir order table heads known found start cells there first end count since old s from known-marks marks)
+              → Stepped (o .at-head .head .situation .p) (keysOf table old) round room rows table buckets
+              (ShapeGives (o .at-head .head .situation .p) (keysOf table since) (keysOf table old) (o .k) known found s) r table′ buckets′) where
             both : Stepped p (keysOf table₀ old) round room n table₀ buckets₀ (λ key. Below (v .upto) key ⊎ Gives s key) r table′ buckets′
             both =
                 stepped-on p since old round room n rows r table₀ buckets₀ table buckets table′ buckets′ (Below (v .upto)) (λ ks₀ ks. ShapeGives p ks₀ ks k known found s)
-                (a .head .situation .chains .new) behind (v .grew) step
+                (a .head .situation .chains .new) behind (v .grew) (step along-shape)
 
             pub along-full : {Must : ℕ → Type 0} → room < r → Stepped p (keysOf table₀ old) round room n table₀ buckets₀ Must r table′ buckets′
             along-full past = inr (stepped-past p (keysOf table₀ old) round room n r table₀ buckets₀ table′ buckets′ _ both past)
 
-            pub along-on : r ≤ room → Along (getD dir (shapeNext + s) 0) r table′ buckets′
-            along-on within = along-next (stepped-within p (keysOf table₀ old) round room n r table₀ buckets₀ table′ buckets′ _ both within)
+            pub along-on : {next : ℕ} → next ≡ getD dir (shapeNext + s) 0 → r ≤ room → Along next r table′ buckets′
+            along-on e within = rw e (along-next (stepped-within p (keysOf table₀ old) round room n r table₀ buckets₀ table′ buckets′ _ both within))
 
       -- at the last link every shape that unifies with the head was met
       pub along-ends : link ≤ 0 → Stepped p (keysOf table₀ old) round room n table₀ buckets₀ (HeadGives p (keysOf table₀ since) (keysOf table₀ old) k known found) rows table buckets

@@ -22,7 +22,7 @@ meet-noted-requires : tie.Need-meet-noted-requires
 meet-noted-requires c κs = let s = c .before .before .before .before .before .before .before .before .before .before .before .before .before .before .before in (shape-meets (s .pre .0), s .pre .5)
 
 same-length : tie.Need-same-length
-same-length c = search needs
+same-length c = c .before .before .before .meet-noted .kept .1 .1 .1 .1 .1 .1 .0
 
 returns-2 : tie.Need-returns-2
 returns-2 c = (c .before .before .before .before .before .before .before .before .before .before .before .before .before .before .before .before .before .before .before .pre .3, λ a. shape-apart a _ _ _ _ (c .before .before .before .before .before .before .before .before .before .before .before .before .before .before .before .before .before .before .before .pre .1) (rw (not-true (c .before .before .before .meet-noted .result) (c .if2 .taken)) at (c .before .before .before .meet-noted .ensures .0 (shape-meets a))), c .before .before .before .meet-noted .ensures .1)
@@ -31,19 +31,19 @@ at-shape-requires : tie.Need-at-shape-requires
 at-shape-requires c κs = let (a, writable, behind, none-seen, size, _) = c .before .before .before .before .before .before .before .before .before .before .before .before .before .before .before .before .before .before .before .before .before .before .before .before .pre in (shape-met a (c .before .before .before .before .before .before .before .before .before .before .before .before .wide .ensures .0) (rw (not-false (c .before .before .before .before .before .before .before .before .meet-noted .result) (c .before .before .before .before .before .if2 .left)) at (c .before .before .before .before .before .before .before .before .meet-noted .ensures .0 (shape-meets a))), writable, behind, none-seen, size)
 
 same-length-2 : tie.Need-same-length-2
-same-length-2 c = search needs
+same-length-2 c = c .before .before .before .before .before .before .before .before .at-shape .kept .1 .1 .1 .0
 
 same-length-3 : tie.Need-same-length-3
-same-length-3 c = search needs
+same-length-3 c = c .before .before .before .before .before .before .before .before .at-shape .kept .1 .1 .1 .1 .0
 
 same-length-4 : tie.Need-same-length-4
-same-length-4 c = search needs
+same-length-4 c = c .before .before .before .before .before .before .before .before .at-shape .kept .1 .1 .1 .1 .1 .0
 
 same-length-5 : tie.Need-same-length-5
-same-length-5 c = search needs
+same-length-5 c = c .before .before .before .before .before .before .before .before .at-shape .kept .1 .1 .1 .1 .1 .1 .0
 
 same-length-6 : tie.Need-same-length-6
-same-length-6 c = search needs
+same-length-6 c = c .before .before .before .before .before .before .before .before .before .before .before .before .before .before .before .before .before .meet-noted .kept .1 .1 .1 .1 .1 .1 .0
 
 returns-3 : tie.Need-returns-3
 returns-3 c = (c .before .before .before .before .before .before .before .before .at-shape .ensures .0, λ a. c .before .before .before .before .before .before .before .before .at-shape .ensures .1 (shape-met a (c .before .before .before .before .before .before .before .before .before .before .before .before .before .before .before .before .before .before .before .before .before .wide .ensures .0) (rw (not-false (c .before .before .before .before .before .before .before .before .before .before .before .before .before .before .before .before .before .meet-noted .result) (c .before .before .before .before .before .before .before .before .before .before .before .before .before .before .if2 .left)) at (c .before .before .before .before .before .before .before .before .before .before .before .before .before .before .before .before .before .meet-noted .ensures .0 (shape-meets a)))), c .before .before .before .before .before .before .before .before .before .before .before .before .before .before .before .before .before .meet-noted .ensures .1)
