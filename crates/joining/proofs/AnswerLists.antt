@@ -26,6 +26,11 @@ pub found-none : {P : ℕ → Type 0} {seen answers : List ℕ} {count : ℕ} {a
 found-none l e none =
     record { listing = l; more = omega arith; keeps = e; members = λ q. (λ m. inl (rw e at m), ⊎-elim (λ m. rw e m) (λ h. absurd (none q h))) }
 
+-- what was found, by other names of the set, the list and the count
+pub found-as : {P : ℕ → Type 0} {seen seen′ answers answers′ : List ℕ} {count r r′ : ℕ} {answers₀ : List ℕ} → seen ≡ seen′ → answers ≡ answers′ → r ≡ r′
+    → Found P seen′ answers′ count r′ answers₀ → Found P seen answers count r answers₀
+found-as s a e f = rw s (rw a (rw e f))
+
 -- the same answers, said otherwise
 pub found-for : {P Q : ℕ → Type 0} {seen answers : List ℕ} {count r : ℕ} {answers₀ : List ℕ} → ((q : ℕ) → P q ↔ Q q)
     → Found P seen answers count r answers₀ → Found Q seen answers count r answers₀

@@ -27,7 +27,7 @@ passes-once table sets here there r q m h h′ = marks-unique (MarkedIn sets 0 (
 pub walking-as : {p : Program} {A : Term} {k s rows : ℕ} {table sets : List ℕ} {here there from since : ℕ} {seen seen′ answers answers′ : List ℕ} {fresh fresh′ older older′ link link′ : ℕ}
     → link ≡ link′ → seen ≡ seen′ → answers ≡ answers′ → fresh ≡ fresh′ → older ≡ older′ → Walking p A k s rows table sets here there from since seen′ answers′ fresh′ older′ link′
     → Walking p A k s rows table sets here there from since seen answers fresh older link
-walking-as l s a f o k = rw (l, s, a, f, o) k
+walking-as l s a f o k = rw l (rw s (rw a (rw f (rw o k))))
 
 module _ {p : Program} {A : Term} {k s rows : ℕ} {table sets : List ℕ} {here there newest from since : ℕ} {seen₀ answers₀ : List ℕ} {fresh₀ older₀ : ℕ}
     (w : ShapeThere p A k s rows table seen₀ answers₀ newest from since fresh₀ older₀) where

@@ -25,7 +25,7 @@ use Rattle.joining.specs.AnswerSteps.{AnswerOf, AnswerBefore, Sided, Met
 use Rattle.steps.proofs.ShapeAtoms.{shape-is-atom}
 use Rattle.steps.proofs.Meetings.{setting-within}
 use Rattle.steps.proofs.BodyAtoms.{body-at, body-atom, some-cells, predicate-there, arguments-there}
-use Rattle.steps.proofs.ShapeLinks.{same-predicate, link-below, next-link, passed-before, all-passed}
+use Rattle.steps.proofs.ShapeLinks.{shapesLeft, same-predicate, link-below, next-link, links-fall, passed-before, all-passed}
 use Rattle.joining.proofs.AnswerLists.{found-for, sources-few}
 use Rattle.joining.proofs.AnswerSides.{sided-none, sided-for}
 
@@ -44,9 +44,9 @@ pub record Shaped (p : Program) (table : List ℕ) (A : Term) (from since rows l
 
 -- the same by other names of the link, the lists and the counts
 pub shaped-as : {p : Program} {table : List ℕ} {A : Term} {from since rows link link′ : ℕ} {seen seen′ answers answers′ : List ℕ} {fresh fresh′ older older′ : ℕ}
-    → link ≡ link′ → seen ≡ seen′ → answers ≡ answers′ → (fresh ≡ fresh′) × (older ≡ older′) → Shaped p table A from since rows link′ seen′ answers′ fresh′ older′
+    → link ≡ link′ → seen ≡ seen′ → answers ≡ answers′ → fresh ≡ fresh′ → older ≡ older′ → Shaped p table A from since rows link′ seen′ answers′ fresh′ older′
     → Shaped p table A from since rows link seen answers fresh older
-shaped-as l s a (f, o) k = rw (l, s, a, f, o) k
+shaped-as l s a f o k = rw l (rw s (rw a (rw f (rw o k))))
 
 module _ {words dir table heads : List ℕ} {j since rows : ℕ} (w : Situation words dir table heads since rows) (b : BodyOf (w .p) j) where
   abbrev start : ℕ
@@ -79,17 +79,18 @@ module _ {words dir table heads : List ℕ} {j since rows : ℕ} (w : Situation 
   pub argument-cells : Cells (take (start + cells - (start + 1)) (drop (start + 1) words))
   argument-cells = rw arguments-are (cells-encs (w .p .functions) (atom .arguments) (atom .keeps))
 
-  pub atom-variables : (there : ℕ) → Present (take (start + cells - (start + 1)) (drop (start + 1) words)) there → VariablesOf (b .A) there
-  atom-variables there h =
-      let small = present-small (take (start + cells - (start + 1)) (drop (start + 1) words)) there argument-cells h in
-      rw (atom .is) (present-variables (w .p .functions) (atom .predicate) (atom .arguments) there (atom .keeps) small (rw arguments-are at h))
+  pub atom-variables : {start′ cells′ : ℕ} → start′ ≡ start → cells′ ≡ cells → (there : ℕ) → Present (take (start′ + cells′ - (start′ + 1)) (drop (start′ + 1) words)) there → VariablesOf (b .A) there
+  atom-variables s-is c-is there h =
+      let here = rw (s-is, c-is) at h in
+      let small = present-small (take (start + cells - (start + 1)) (drop (start + 1) words)) there argument-cells here in
+      rw (atom .is) (present-variables (w .p .functions) (atom .predicate) (atom .arguments) there (atom .keeps) small (rw arguments-are at here))
 
-  pub shaped-begins : {from : ℕ} {seen answers : List ℕ} → Listing seen answers 0
-      → Shaped (w .p) table (b .A) from since rows (getD dir (predicateShape + getD words start 0) 0) seen answers 0 maxRows
-  shaped-begins l =
+  pub shaped-begins : {from link predicate start′ : ℕ} {seen answers : List ℕ} → link ≡ getD dir (predicateShape + predicate) 0 → predicate ≡ getD words start′ 0 → start′ ≡ start
+      → Listing seen answers 0 → Shaped (w .p) table (b .A) from since rows link seen answers 0 maxRows
+  shaped-begins l-is p-is s-is l =
       record {
         k = 0;
-        links = subst (λ (q : ℕ). Link (shapes (w .p)) q 0 (getD dir (predicateShape + getD words start 0) 0)) predicate-is (w .setting .directory .first-shape (getD words start 0) declared);
+        links = rw (l-is, p-is, s-is) (subst (λ (q : ℕ). Link (shapes (w .p)) q 0 (getD dir (predicateShape + getD words start 0) 0)) predicate-is (w .setting .directory .first-shape (getD words start 0) declared));
         sided = sided-none l (λ r q a. omega (arith, a .1));
       }
 
@@ -102,6 +103,9 @@ module _ {words dir table heads : List ℕ} {j since rows : ℕ} (w : Situation 
 
     pub shape-few : s < maxShapes
     shape-few = link-below (w .setting) (k .links) h
+
+    pub shaped-falls : {next : ℕ} → next ≡ getD dir (shapeNext + s) 0 → shapesLeft next < shapesLeft link
+    shaped-falls e = rw e (links-fall (w .setting) (k .links) h)
 
     pub slot-there : firstSolution + s < length heads
     slot-there = omega (arith, shape-few, w .chains .all-heads)

@@ -8,6 +8,7 @@ use mathlib.Core.List.{List}
 use lib.ListN.{length, getD, replicate}
 use Rattle.terms.specs.Mask.{Has}
 use Rattle.marks.specs.Modes.{modes, Together, Kept}
+use Rattle.program.specs.Program.{Program}
 use Rattle.rows.specs.Rows.{rowSize, slotAt, maskAt, beforeAt, keysOf}
 use Rattle.rows.proofs.Adding.{same-mask}
 use Rattle.rows.specs.MaskSet.{setWords, InSet, Inserted}
@@ -35,6 +36,11 @@ had-more seen₀ seen seen′ mask answers x N new less joined ins had q h =
 pub had-all : (seen : List ℕ) (mask : ℕ) (answers : List ℕ) (x upto : ℕ) (seen′ : List ℕ) → x < upto → ((q : ℕ) → InSet seen′ q → Had seen mask answers (x + 1) q)
     → (q : ℕ) → InSet seen′ q → Had seen mask answers upto q
 had-all seen mask answers x upto seen′ less had q h = ⊎-elim inl (λ m. inr (joined-fewer mask answers (x + 1) upto q (omega arith) m)) (had q h)
+
+-- rows that are there, by other names of their number and of the table
+pub grew-as : {p : Program} {keys : List ℕ} {round room n n′ n″ : ℕ} {table table′ table″ buckets buckets′ buckets″ : List ℕ} {Must : ℕ → Type 0} → n′ ≡ n″ → table′ ≡ table″ → buckets′ ≡ buckets″
+    → Grew p keys round room n table buckets Must n″ table″ buckets″ → Grew p keys round room n table buckets Must n′ table′ buckets′
+grew-as e t b g = rw e (rw t (rw b g))
 
 module _ {dir order table answers seen : List ℕ} {count rows j mask upto n : ℕ} (w : JoinAsked dir order table answers seen count rows j mask upto n) (buckets : List ℕ) (round room : ℕ) where
   -- the rows of the marks in the set, and of those that the first x answers make, are there

@@ -24,13 +24,21 @@ use Rattle.table.proofs.Keys.{cont-at, solution-at, clause-at, place-at}
 use Rattle.steps.specs.Steps.{RowsIn}
 use Rattle.steps.specs.Situation.{Situation, BodyOf}
 use Rattle.joining.specs.Answers.{Listing, Answer, Found, Stands, Parted}
-use Rattle.joining.specs.Joined.{ContMarks, SlotChain, Answered}
+use Rattle.joining.specs.Joined.{ContMarks, SlotChain, AnswersThere, Answered}
 use Rattle.steps.proofs.Bodies.{body-few}
 use Rattle.steps.proofs.SlotRows.{at-slot, in-slot, older-row}
 
 -- what is listed stands in the list
 pub listing-within : {seen answers : List ℕ} {count : ℕ} → Listing seen answers count → count ≤ length answers
 listing-within l = omega (arith, l .within, l .list-size)
+
+-- answers by other names of the list and its counts
+pub answers-as : {answers answers′ : List ℕ} {fresh all all′ : ℕ} → answers ≡ answers′ → all ≡ all′ → AnswersThere answers′ fresh all′ → AnswersThere answers fresh all
+answers-as a e there = rw a (rw e there)
+
+pub answered-as : {p : Program} {table : List ℕ} {A : Term} {since rows newest : ℕ} {answers answers′ : List ℕ} {fresh all all′ : ℕ} → answers ≡ answers′ → all ≡ all′
+    → Answered p table A since rows newest answers′ fresh all′ → Answered p table A since rows newest answers fresh all
+answered-as a e h = rw a (rw e h)
 
 -- nothing is listed yet
 pub listing-none : (seen answers : List ℕ) → seen ≡ replicate setWords 0 → length answers ≡ 4096 → Listing seen answers 0

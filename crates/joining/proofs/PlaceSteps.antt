@@ -137,31 +137,37 @@ module _ {words dir table heads : List ℕ} {since rows j : ℕ} (w : Situation 
     pub no-next-rows : getD heads (firstCont + j) 0 ≡ 0 → Stepped (w .p) (keysOf table rows) round room n table buckets NextKeys n table buckets
     no-next-rows none = stepped-none (w .p) (keysOf table rows) round room n table buckets NextKeys writable (λ key (row, (N, made, goes), e). absurd (no-conts w b none N made))
 
-    module _ (answers : List ℕ) (fresh all : ℕ) (there : AnswersThere answers fresh all) (a : Answered (w .p) table (b .A) since rows (getD heads (firstCont + j) 0) answers fresh all) where
+    module _ {newest : ℕ} (newest-is : newest ≡ getD heads (firstCont + j) 0) (answers : List ℕ) (fresh all : ℕ) (there : AnswersThere answers fresh all)
+        (a : Answered (w .p) table (b .A) since rows newest answers fresh all) where
+      pub answered : Answered (w .p) table (b .A) since rows (getD heads (firstCont + j) 0) answers fresh all
+      answered = rw newest-is at a
+
       pub no-answers : all ≡ 0 → Stepped (w .p) (keysOf table rows) round room n table buckets NextKeys n table buckets
       no-answers none =
           stepped-none (w .p) (keysOf table rows) round room n table buckets NextKeys writable
-          (λ key (row, (N, made, goes), e). absurd (no-answer answers fresh all there a none N made))
+          (λ key (row, (N, made, goes), e). absurd (no-answer answers fresh all there answered none N made))
 
       module _ (m : MiddleAsked words dir table heads since rows j) (order : List ℕ) (count : ℕ) (o : InOrder (m .next) (number (m .next)) order count) where
-        abbrev pub conts-asked : ContsAsked dir order table answers count rows (getD heads (firstCont + j) 0) since fresh all (j + 1)
+        abbrev pub conts-asked : ContsAsked dir order table answers count rows newest since fresh all (j + 1)
         conts-asked =
             record {
               slot = firstCont + j;
-              chain = place-chain w b;
+              chain = rw newest-is (place-chain w b);
               answers-there = there;
               reaching =
                   record {
                     place = next-place m order count o;
                     reached = λ N made.
                         new-reached modes (w .p) (RowsIn (w .p) (keysOf table since)) (RowsIn (w .p) (keysOf table rows)) (b .k) (suc (b .i)) N
-                        (conts-reach w b answers fresh all a N .0 made);
+                        (conts-reach w b answers fresh all answered N .0 made);
                   };
             }
 
-        pub next-rows : (n′ : ℕ) (table′ buckets′ : List ℕ)
-            → Stepped (w .p) (keysOf table rows) round room n table buckets (RowsOf (w .p) (b .k) (suc (b .i)) (ContMarks table answers (firstCont + j) rows since fresh all 0)) n′ table′ buckets′
+        pub next-rows : {n′ : ℕ} {table′ buckets′ : List ℕ}
+            → ((x : ContsAsked dir order table answers count rows newest since fresh all (j + 1))
+            → Stepped (x .reaching .place .p) (keysOf table rows) round room n table buckets
+            (RowsOf (x .reaching .place .p) (x .reaching .place .k) (x .reaching .place .i) (ContMarks table answers (x .slot) rows since fresh all 0)) n′ table′ buckets′)
             → Stepped (w .p) (keysOf table rows) round room n table buckets NextKeys n′ table′ buckets′
-        next-rows n′ table′ buckets′ =
+        next-rows {n′} {table′} {buckets′} step =
             stepped-must (w .p) (keysOf table rows) round room n n′ table buckets table′ buckets′ _ NextKeys
-            (λ key (row, (N, made, goes), e). (N, conts-reach w b answers fresh all a N .1 made, (row, goes-emitted goes, e)))
+            (λ key (row, (N, made, goes), e). (N, conts-reach w b answers fresh all answered N .1 made, (row, goes-emitted goes, e))) (step conts-asked)

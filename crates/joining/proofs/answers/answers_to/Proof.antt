@@ -8,9 +8,9 @@ use Rattle.directory.specs.Layout.{shapeNext}
 use Rattle.table.specs.Keys.{firstSolution}
 use Rattle.steps.specs.Situation.{Situation, BodyOf}
 use Rattle.steps.proofs.BodyAtoms.{number-below}
-use Rattle.steps.proofs.ShapeLinks.{shapesLeft, predicate-below, links-fall}
+use Rattle.steps.proofs.ShapeLinks.{shapesLeft, predicate-below}
 use Rattle.joining.proofs.Offsets.{offset-fits, offset-bytes-fit, offset-within}
-use Rattle.joining.proofs.AnswersOfShapes.{shaped-as, declared, cells-some, cells-fit, argument-cells, atom-variables, Shaped, shaped-begins, shape-few, slot-there, met-asked, none-newer, shaped-met, shaped-goes-on, shaped-ends}
+use Rattle.joining.proofs.AnswersOfShapes.{shaped-as, declared, cells-some, cells-fit, argument-cells, atom-variables, Shaped, shaped-begins, shape-few, shaped-falls, slot-there, met-asked, none-newer, shaped-met, shaped-goes-on, shaped-ends}
 use Rattle.joining.proofs.answers.answers_to.Statement.{statement}
 use Rattle.joining.proofs.answers.answers_to.Tie as tie
 
@@ -121,7 +121,7 @@ wide-requires-4 c κs = search needs
 loop-holds : tie.Need-loop-holds Inv-loop μ-loop
 loop-holds c =
     let st = c .before .before .before .before .before .before .before .before .before .before .before .before .before .before .before .before in
-    λ w b. rw (c .wide4 .ensures .0, c .before .before .wide3 .ensures .0, c .before .before .before .before .before .before .before .before .wide .ensures .0) (shaped-begins w b (st .pre .listing))
+    λ w b. shaped-begins w b (c .wide4 .ensures .0) (c .before .before .wide3 .ensures .0) (c .before .before .before .before .before .before .before .before .wide .ensures .0) (st .pre .listing)
 
 sub-s : tie.Need-sub-s Inv-loop μ-loop
 sub-s c = omega (arith, c .loop-test .taken)
@@ -158,7 +158,7 @@ of-met-requires c κs =
     let start-is = c .before .before .before .before .before .before .before .before .before .before .before .before .before .before .before .wide .ensures .0 in
     let cells-is = c .before .before .before .before .before .before .before .before .before .before .before .before .before .wide2 .ensures .0 in
     let there = c .before .before .before .before .before .before .before .before .before .before .before .variables-of in
-    met-asked W B (c .before .before .before .before .before .before .loop .inv W B) (c .before .before .before .before .before .loop-test .taken) (c .before .before .before .wide5 .ensures .0) start-is cells-is (atom-variables W B (there .result) (rw (start-is, cells-is) at (there .ensures)))
+    met-asked W B (c .before .before .before .before .before .before .loop .inv W B) (c .before .before .before .before .before .loop-test .taken) (c .before .before .before .wide5 .ensures .0) start-is cells-is (atom-variables W B start-is cells-is (there .result) (there .ensures))
 
 add-wide-5 : tie.Need-add-wide-5 Inv-loop μ-loop
 add-wide-5 c =
@@ -188,7 +188,8 @@ loop-less : tie.Need-loop-less Inv-loop μ-loop
 loop-less c =
     let st = c .before .before .before .before .before .before .before .before .before .before .before .before .before .before .before .before .before .before .before .before .before .before .before in
     let W = st .pre .situation in
-    rw (c .wide6 .ensures .0) (links-fall (W .setting) ((c .before .before .before .before .before .before .loop .inv W (st .pre .body)) .links) (c .before .before .before .before .before .loop-test .taken))
+    let B = st .pre .body in
+    shaped-falls W B (c .before .before .before .before .before .before .loop .inv W B) (c .before .before .before .before .before .loop-test .taken) (c .wide6 .ensures .0)
 
 loop-again : tie.Need-loop-again Inv-loop μ-loop
 loop-again c =
@@ -200,9 +201,9 @@ loop-again c =
     let there = c .before .before .before .before .before .before .before .before .before .before .before .variables-of in
     let more = c .before .before .before .before .before .loop-test .taken in
     λ w b. ⊎-elim
-    (λ v. shaped-as next-is (v .8) (v .9) (ap (λ x. x .fresh) (v .10), ap (λ x. x .older) (v .10)) (shaped-met w b (at .loop .inv w b) more newest-is start-is cells-is
-    (atom-variables w b (there .result) (rw (start-is, cells-is) at (there .ensures))) (v .3 .ensures)))
-    (λ v. shaped-as next-is (v .1) (v .2) (ap (λ x. x .fresh) (v .3), ap (λ x. x .older) (v .3)) (shaped-goes-on w b (at .loop .inv w b) more
+    (λ v. shaped-as next-is (v .8) (v .9) (ap (λ x. x .fresh) (v .10)) (ap (λ x. x .older) (v .10)) (shaped-met w b (at .loop .inv w b) more newest-is start-is cells-is
+    (atom-variables w b start-is cells-is (there .result) (there .ensures)) (v .3 .ensures)))
+    (λ v. shaped-as next-is (v .1) (v .2) (ap (λ x. x .fresh) (v .3)) (ap (λ x. x .older) (v .3)) (shaped-goes-on w b (at .loop .inv w b) more
     (none-newer w b (at .loop .inv w b) more (rw newest-is at (v .0 .left)))))
     (c .before .before .if1 .came)
 

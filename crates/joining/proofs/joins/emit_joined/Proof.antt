@@ -10,7 +10,7 @@ use Rattle.rows.specs.MaskSet.{setWords, InSet}
 use Rattle.rows.proofs.MaskSets.{was-there}
 use Rattle.steps.proofs.Stepping.{stepped-within, stepped-past}
 use Rattle.joining.specs.Joined.{Had, JoinAsked}
-use Rattle.joining.proofs.JoinSteps.{AnswersGrew, had-more, had-all, answers-begin, answers-end, answer-had, answer-emitted}
+use Rattle.joining.proofs.JoinSteps.{AnswersGrew, grew-as, had-more, had-all, answers-begin, answers-end, answer-had, answer-emitted}
 use Rattle.joining.proofs.joins.emit_joined.Statement.{statement}
 use Rattle.joining.proofs.joins.emit_joined.Tie as tie
 
@@ -88,8 +88,8 @@ loop-again c =
       had-more (s .args .seen .now) (a .seen) (c .before .before .before .insert .last .0) _ _ _ _ _ q t i (a .inv .2),
       λ w.
           ⊎-elim
-          (λ arm. rw (arm .9, arm .10, arm .11) (stepped-within _ _ _ _ _ _ _ _ _ _ _ (answer-emitted w _ _ _ _ _ _ _ _ l t (a .inv .3 w) _ _ _ (s .pre .2) (arm .3 .ensures)) (arm .8 .left)))
-          (λ arm. rw (arm .1, arm .2, arm .3) (answer-had w _ _ _ _ _ _ _ _ l t (a .inv .3 w) (a .inv .2 _ (was-there _ _ _ _ i (λ b. rw (arm .0 .left) at b)))))
+          (λ arm. grew-as (arm .11) (arm .9) (arm .10) (stepped-within _ _ _ _ _ _ _ _ _ _ _ (answer-emitted w _ _ _ _ _ _ _ _ l t (a .inv .3 w) _ _ _ (s .pre .2) (arm .3 .ensures)) (arm .8 .left)))
+          (λ arm. grew-as (arm .3) (arm .1) (arm .2) (answer-had w _ _ _ _ _ _ _ _ l t (a .inv .3 w) (a .inv .2 _ (was-there _ _ _ _ i (λ b. rw (arm .0 .left) at b)))))
           (c .if1 .came),
     )
 

@@ -52,7 +52,7 @@ returns-2 c =
     let listed = c .before .before .before .before .before .before .before .list-answers .ensures in (
       listed .0,
       listed .2,
-      λ w b. no-answers w b _ _ _ _ (s .pre .1) _ _ _ (listed .1) (rw (c .before .before .before .before .before .before .before .before .before .before .before .before .before .wide .ensures .0) at (listed .3 w b)) (c .if2 .taken),
+      λ w b. no-answers w b _ _ _ _ (s .pre .1) (c .before .before .before .before .before .before .before .before .before .before .before .before .before .wide .ensures .0) _ _ _ (listed .1) (listed .3 w b) (c .if2 .taken),
     )
 
 add-next : tie.Need-add-next
@@ -107,10 +107,9 @@ emit-conts-requires c κs =
     let s = c .before .before .before .before .before .before .before .before .before .before .before .before .before .before .before .before .before .before .before .before .before .before .before .before .before .before .before .before .before .before .before .before .before .before .before in
     let m = s .pre .0 in
     let listed = c .before .before .before .before .before .before .before .before .before .before .before .before .before .before .before .before .before .before .before .list-answers .ensures in
-    let newest = c .before .before .before .before .before .before .before .before .before .before .before .before .before .before .before .before .before .before .before .before .before .before .before .before .before .wide .ensures .0 in
-    let run = next-run (m .situation) (m .body) m _ _ (c .before .before .before .before .before .before .before .before .before .before .wide2 .ensures .0) (c .before .before .before .before .before .before .before .before .wide3 .ensures .0) .0 in
-    let a = rw newest at (listed .3 (m .situation) (m .body)) in (
-      rw newest (conts-asked (m .situation) (m .body) (s .args .at .number) (s .args .at .room) _ _ (s .pre .1) _ _ _ (listed .1) a m _ _ (c .before .before .before .before .before .order-of .ensures .1 (m .next) run)),
+    let run = next-run (m .situation) (m .body) m _ _ (c .before .before .before .before .before .before .before .before .before .before .wide2 .ensures .0) (c .before .before .before .before .before .before .before .before .wide3 .ensures .0) .0 in (
+      conts-asked (m .situation) (m .body) (s .args .at .number) (s .args .at .room) _ _ (s .pre .1) (c .before .before .before .before .before .before .before .before .before .before .before .before .before .before .before .before .before .before .before .before .before .before .before .before .before .wide .ensures .0) _ _ _ (listed .1) (listed .3 (m .situation) (m .body)) m _ _
+          (c .before .before .before .before .before .order-of .ensures .1 (m .next) run),
       s .pre .1,
       s .pre .2,
       listed .0,
@@ -139,15 +138,12 @@ returns-3 c =
     let s = c .before .before .before .before .before .before .before .before .before .before .before .before .before .before .before .before .before .before .before .before .before .before .before .before .before .before .before .before .before .before .before .before .before .before .before .before .before .before .before .before .before .before .before .before .before .before in
     let m = s .pre .0 in
     let listed = c .before .before .before .before .before .before .before .before .before .before .before .before .before .before .before .before .before .before .before .before .before .before .before .before .before .before .before .before .before .before .list-answers .ensures in
-    let newest = c .before .before .before .before .before .before .before .before .before .before .before .before .before .before .before .before .before .before .before .before .before .before .before .before .before .before .before .before .before .before .before .before .before .before .before .before .wide .ensures .0 in (
-      c .before .before .zero .ensures ∙ ap (λ (k : ℕ). replicate {A = ℕ} k 0) (c .before .before .before .before .before .before .before .before .before .before .emit-conts .kept .1 .1 .1 .1 .1 .1 .1 .1 .1 .1 .1 .1 .0 ∙ ap length (listed .0) ∙ length-replicate {A = ℕ} setWords 0),
+    let made = c .before .before .before .before .before .before .before .before .before .before .emit-conts in (
+      c .before .before .zero .ensures ∙ ap (λ (k : ℕ). replicate {A = ℕ} k 0) (made .kept .1 .1 .1 .1 .1 .1 .1 .1 .1 .1 .1 .1 .0 ∙ ap length (listed .0) ∙ length-replicate {A = ℕ} setWords 0),
       listed .2,
       λ w b.
           let run = next-run w b m _ _ (c .before .before .before .before .before .before .before .before .before .before .before .before .before .before .before .before .before .before .before .before .before .wide2 .ensures .0) (c .before .before .before .before .before .before .before .before .before .before .before .before .before .before .before .before .before .before .before .wide3 .ensures .0) .0 in
-          let a = rw newest at (listed .3 w b) in
-          let o = c .before .before .before .before .before .before .before .before .before .before .before .before .before .before .before .before .order-of .ensures .1 (m .next) run in
-          let asked = conts-asked w b (s .args .at .number) (s .args .at .room) _ _ (s .pre .1) _ _ _ (listed .1) a m _ _ o in
-          next-rows w b _ _ _ _ (s .pre .1) _ _ _ (listed .1) a m _ _ o _ _ _ ((rw newest at (c .before .before .before .before .before .before .before .before .before .before .emit-conts .ensures)) asked),
+          next-rows w b _ _ _ _ (s .pre .1) (c .before .before .before .before .before .before .before .before .before .before .before .before .before .before .before .before .before .before .before .before .before .before .before .before .before .before .before .before .before .before .before .before .before .before .before .before .wide .ensures .0) _ _ _ (listed .1) (listed .3 w b) m _ _ (c .before .before .before .before .before .before .before .before .before .before .before .before .before .before .before .before .order-of .ensures .1 (m .next) run) (made .ensures),
     )
 
 pub middle-place-spec : {M : Type 1} → statement M

@@ -6,6 +6,7 @@ use mathlib.Core.Path.{_≡_, sym, _∙_}
 use mathlib.Core.Logic.{⊎-elim}
 use Rattle.joining.specs.Answers.{Found}
 use Rattle.joining.specs.KeptAnswers.{Recalled}
+use Rattle.joining.proofs.AnswerLists.{found-as}
 use Rattle.joining.proofs.KeptMasks.{order-small, few-masks, recall-none, recall-room, recall-not, recall-there, recall-new}
 use Rattle.joining.proofs.kept.recall_answers.Statement.{statement}
 use Rattle.joining.proofs.kept.recall_answers.Tie as tie
@@ -68,10 +69,10 @@ loop-again c =
       c .before .before .before .before .loop .inv .0,
       omega (arith, c .before .before .before .loop-test .taken),
       ⊎-elim
-          (λ v. rw (v .8, v .9, v .10) (recall-new w f (rw bit at (in-set .0 (rw (v .0 .taken) tt))) (rw (v .1 .ensures) at (v .2 .ensures)) (v .4 .kept .0) (rw (v .7 .taken) at (v .4 .ensures))))
+          (λ v. found-as (v .8) (v .9) (v .10) (recall-new w f (rw bit at (in-set .0 (rw (v .0 .taken) tt))) (rw (v .1 .ensures) at (v .2 .ensures)) (v .4 .kept .0) (rw (v .7 .taken) at (v .4 .ensures))))
           (⊎-elim
-          (λ v. rw (v .8, v .9, v .10) (recall-there w f (rw bit at (in-set .0 (rw (v .0 .taken) tt))) (rw (v .1 .ensures) at (v .2 .ensures)) (v .4 .kept .0) (rw (v .7 .left) at (v .4 .ensures))))
-          (λ v. rw (v .1, v .2, v .3) (recall-not w f (λ h. rw (v .0 .left) at (in-set .1 (rw bit h))))))
+          (λ v. found-as (v .8) (v .9) (v .10) (recall-there w f (rw bit at (in-set .0 (rw (v .0 .taken) tt))) (rw (v .1 .ensures) at (v .2 .ensures)) (v .4 .kept .0) (rw (v .7 .left) at (v .4 .ensures))))
+          (λ v. found-as (v .1) (v .2) (v .3) (recall-not w f (λ h. rw (v .0 .left) at (in-set .1 (rw bit h))))))
           (c .if1 .came),
     )
 

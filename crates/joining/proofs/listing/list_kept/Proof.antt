@@ -7,7 +7,7 @@ use mathlib.Core.Path.{ap, sym, _∙_}
 use mathlib.Core.Logic.{⊎-elim}
 use lib.ListN.{length, length-set}
 use Rattle.joining.specs.KeptAnswers.{answeredOf}
-use Rattle.joining.proofs.PlaceAnswers.{listing-none, listing-within, since-known}
+use Rattle.joining.proofs.PlaceAnswers.{answers-as, answered-as, listing-none, listing-within, since-known}
 use Rattle.joining.proofs.KeptPlaces.{answer-own, keeps-answers, keeping-noted, known-noted, answered-new, answered-recalled}
 use Rattle.joining.proofs.listing.list_kept.Statement.{statement}
 use Rattle.joining.proofs.listing.list_kept.Tie as tie
@@ -88,8 +88,8 @@ returns c =
     let early : c .before .before .before .before .before .before .before .before .before .before .before .before .before .before .before .before .before .before .before .before .before .before .before .before .before .before .if1 .known ≤ answeredOf (c .before .before .before .before .before .before .before .before .before .before .before .before .before .before .before .before .before .before .before .before .before .before .before .before .before .before .before .before .before .before .before .before .before .before .before .before .args .noted .now) (c .before .before .before .before .before .before .before .before .before .before .before .before .before .before .before .before .before .before .before .before .before .before .before .before .before .before .before .before .before .before .before .before .before .before .before .before .args .j) = ⊎-elim (λ v. le-trans (le-of-eq (v .1)) (le-trans (le-of-lt (v .0 .taken)) (le-of-eq (c .before .before .before .before .before .before .before .before .before .before .before .before .before .before .before .before .before .before .before .before .before .before .before .before .before .before .before .wide .ensures .0)))) (λ v. le-of-eq (v .1 ∙ c .before .before .before .before .before .before .before .before .before .before .before .before .before .before .before .before .before .before .before .before .before .before .before .before .before .before .before .wide .ensures .0)) (c .before .before .before .before .before .before .before .before .before .before .before .before .before .before .before .before .before .before .before .before .before .before .before .before .before .before .if1 .came) in (
       c .before .before .forget .ensures,
       ⊎-elim
-          (λ v. rw (v .10, v .11) (record { few = le-trans (found .more) (v .4 .ensures .more); most = listing-within (v .4 .ensures .listing) }))
-          (λ v. rw (v .2, v .3) (record { few = found .more; most = listing-within (found .listing) }))
+          (λ v. answers-as (v .10) (v .11) (record { few = le-trans (found .more) (v .4 .ensures .more); most = listing-within (v .4 .ensures .listing) }))
+          (λ v. answers-as (v .2) (v .3) (record { few = found .more; most = listing-within (found .listing) }))
           (c .before .before .before .before .before .if2 .came),
       let w = pre .0 .situation in
           let b = pre .0 .body in
@@ -99,11 +99,11 @@ returns c =
           let kept = pre .0 .kept w b in
           let listed = since-known (w .p) (c .before .before .before .before .before .before .before .before .before .before .before .before .before .before .before .before .before .before .before .before .before .before .before .before .before .before .before .before .before .before .before .before .before .before .before .before .args .table .now) (b .A) _ _ _ (c .before .before .before .before .before .before .before .before .before .before .before .before .before .before .before .before .before .before .before .before .before .before .before .answers-to .ensures w b) found (w .chains .new) ordered in
           ⊎-elim
-          (λ v. rw (v .10, v .11) (answered-recalled w b kept _ _ _ _ _ listed _
+          (λ v. answered-as (v .10) (v .11) (answered-recalled w b kept _ _ _ _ _ listed _
           (keeping-noted w b kept _ _ _ _ _ _ (pre .3 (w .p) (w .setting)) early listed (c .before .before .before .before .before .before .before .before .before .note-answers .ensures) _ (c .before .before .before .before .before .before .narrow .ensures))
           (known-noted w b kept _ _ _ _ _ _ (pre .3 (w .p) (w .setting)) early listed (c .before .before .before .before .before .before .before .before .before .note-answers .ensures) _ (c .before .before .before .before .before .before .narrow .ensures))
           (v .4 .ensures)))
-          (λ v. rw (v .2, v .3) (answered-new w b kept _ _ _ _ _ listed (v .0 .left)))
+          (λ v. answered-as (v .2) (v .3) (answered-new w b kept _ _ _ _ _ listed (v .0 .left)))
           (c .before .before .before .before .before .if2 .came),
     )
 
