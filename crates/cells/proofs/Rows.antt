@@ -101,6 +101,17 @@ pub record Said (t : Table) (query : Bool) (line : List ℕ) (from base : ℕ) (
   pub stands : Stands p ms out front modes words
   pub rest : cellsOf t query noCells (base + from) (behind tab line from) ≡ cellsOf t query (rowOf p ms out) (base + at) (behind tab line at)
 
+-- one token more, the one that ends at e
+pub said-on : (t : Table) (query : Bool) (line : List ℕ) {from : ℕ} (base : ℕ) (front words modes : List ℕ) {words₀ modes₀ : List ℕ} {p : Progress} (q : Progress)
+    (at e : ℕ) → at < length line → e ≡ at + 1 + length (upTo tab (drop (at + 1) line))
+    → (s : Said t query line from base front words₀ modes₀ p at) → query && complete (rowOf p (s .ms) (s .out)) ≡ false
+    → TakenAs front modes words (Next q) (takenAt (rowOf p (s .ms) (s .out)) 0 (lookOf t query (rowOf p (s .ms) (s .out)) (between line (at + 1) e)))
+    → Said t query line from base front words modes q e
+said-on t query line base front words modes {p = p} q at e h ends s o taken =
+    let r = rowOf p (s .ms) (s .out) in
+    let g = taken-next front modes words r (lookOf t query r (between line (at + 1) e)) q taken in
+    record { ms = g .ms; out = g .out; stands = g .stands; rest = s .rest ∙ rest-on t query line base at e h ends r o g }
+
 -- what holds whenever the loop's test is reached
 pub record Turning (line : List ℕ) (from base : ℕ) (query : Bool) (c : Counts) (names marks arities words₀ modes₀ : List ℕ) (count : ℕ)
     (words modes : List ℕ) (p : Progress) (at : ℕ) : Type 0 where

@@ -9,7 +9,7 @@ use Rattle.text.proofs.Cuts.{part-within}
 use Rattle.cells.specs.Cells.{lookOf}
 use Rattle.cells.specs.Between.{between}
 use Rattle.cells.specs.Room.{tableOf, rowOf}
-use Rattle.cells.proofs.Rows.{Turning, begins, rest-over, rest-wrong, rest-on, rest-none, taken-wrong, taken-next, as-wrong, as-right, complete-atoms}
+use Rattle.cells.proofs.Rows.{Turning, begins, rest-over, rest-wrong, said-on, rest-none, taken-wrong, as-wrong, as-right, complete-atoms}
 use Rattle.cells.proofs.cells.read_cells.Statement.{statement}
 use Rattle.cells.proofs.cells.read_cells.Tie as tie
 
@@ -132,16 +132,9 @@ loop-again c =
       word-length = c .before .before .before .before .before .before .before .take .kept .1 .1 .1 .1 .1 .1 .1 .0 ∙ l .inv .word-length;
       mode-length = c .before .before .before .before .before .before .before .take .kept .1 .1 .1 .1 .1 .1 .1 .1 .0 ∙ l .inv .mode-length;
       says = λ ns ws front k w n m. let s = l .inv .says ns ws front k w n m in
-          let r = rowOf (l .p) (s .ms) (s .out) in
-          let t = tableOf (a .c) ns ws in
-          let g = taken-next front (c .before .before .before .before .before .before .before .take .last .1 .1 .1 .1 .1 .1 .1 .1 .0) (c .before .before .before .before .before .before .before .take .last .1 .1 .1 .1 .1 .1 .1 .0) r (lookOf t (a .query) r (between (a .line .now) (l .at + 1) e)) q
-          (rw (c .before .next .given .1) at (c .before .before .before .before .before .before .before .take .ensures .0 ns ws (s .ms) (s .out) front k (s .stands))) in
-          record {
-            ms = g .ms;
-            out = g .out;
-            stands = g .stands;
-            rest = s .rest ∙ rest-on t (a .query) (a .line .now) (a .base) (l .at) e (omega arith) (c .before .before .before .before .before .before .before .before .before .before .before .find .ensures) r (sym (c .before .before .before .before .before .before .before .before .before .before .before .before .before .is-over .ensures) ∙ c .before .before .before .before .before .before .before .before .before .before .before .before .if1 .left) g;
-          };
+          said-on (tableOf (a .c) ns ws) (a .query) (a .line .now) (a .base) front (c .before .before .before .before .before .before .before .take .last .1 .1 .1 .1 .1 .1 .1 .0) (c .before .before .before .before .before .before .before .take .last .1 .1 .1 .1 .1 .1 .1 .1 .0) q (l .at) e
+          (omega arith) (c .before .before .before .before .before .before .before .before .before .before .before .find .ensures) s (sym (c .before .before .before .before .before .before .before .before .before .before .before .before .before .is-over .ensures) ∙ c .before .before .before .before .before .before .before .before .before .before .before .before .if1 .left)
+          (rw (c .before .next .given .1) at (c .before .before .before .before .before .before .before .take .ensures .0 ns ws (s .ms) (s .out) front k (s .stands)));
     }
 
 is-complete-requires : tie.Need-is-complete-requires Inv-loop μ-loop
