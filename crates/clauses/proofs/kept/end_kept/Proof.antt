@@ -18,8 +18,8 @@ use Rattle.ends.proofs.KeptMarks.{kept-on}
 use Rattle.ends.proofs.Endings.{new-all, new-none}
 use Rattle.clauses.proofs.HeadSteps.{answers-after}
 use Rattle.clauses.proofs.KeptEnds.{kept-room, kept-fits, kept-cleared, kept-stepped, kept-after}
-use Rattle.clauses.proofs.ending.end_kept.Statement.{statement}
-use Rattle.clauses.proofs.ending.end_kept.Tie as tie
+use Rattle.clauses.proofs.kept.end_kept.Statement.{statement}
+use Rattle.clauses.proofs.kept.end_kept.Tie as tie
 
 add-wide : tie.Need-add-wide
 add-wide c = let s = c .before .before .before .before .before .before .before .before .before .before .before in let w = s .pre .0 in let few = clause-few _ _ _ _ _ _ _ w in omega (arith, few .0, few .1, s .pre .4 (w .situation .p) (w .situation .setting) .size)

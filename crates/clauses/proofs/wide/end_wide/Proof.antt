@@ -19,8 +19,8 @@ use Rattle.ends.proofs.ClauseRows.{clause-few, vars-few, head-there, head-predi
 use Rattle.ends.proofs.HeadMarks.{marked-empty, empty-on, found-holds, found-all, found-none}
 use Rattle.ends.proofs.Endings.{wide-ends}
 use Rattle.joining.proofs.KeptPlaces.{step-keeps-answers, keeps-answers}
-use Rattle.clauses.proofs.ending.end_wide.Statement.{statement}
-use Rattle.clauses.proofs.ending.end_wide.Tie as tie
+use Rattle.clauses.proofs.wide.end_wide.Statement.{statement}
+use Rattle.clauses.proofs.wide.end_wide.Tie as tie
 
 add-wide : tie.Need-add-wide
 add-wide c = let few = clause-few _ _ _ _ _ _ _ (c .before .before .before .before .before .before .before .before .before .before .pre .0) in omega (arith, few .0, few .1)

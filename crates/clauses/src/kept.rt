@@ -1,0 +1,104 @@
+// The head of a clause whose marks are kept between rounds: what its new call rows open, and what the clause ends in.
+use directory::layout::CLAUSE_VARS;
+use ends::ends::head_marks;
+use ends::heads::at_head;
+use ends::keep::KEPT_ROWS;
+use ends::keep::KEPT_SET;
+use ends::keep::keep;
+use ends::keep::new_marks;
+use rows::zeros::clear;
+use steps::place::Round;
+use terms::walk::narrow;
+use terms::walk::wide;
+ghost use Prim.Native.Nat.{_+_, _≤_};
+ghost use lib.ListN.{getD};
+ghost use Rattle.directory.specs.Layout.{clauseVars};
+ghost use Rattle.rows.specs.Rows.{keysOf};
+ghost use Rattle.steps.specs.Situation.{HeadAsked};
+ghost use Rattle.steps.specs.Steps.{Writable, Stepped};
+ghost use Rattle.ends.specs.Ends.{WithHead, Scratch, HeadNotes};
+ghost use Rattle.ends.specs.Keeping.{keptVars, Keeps};
+ghost use Rattle.joining.specs.KeptAnswers.{KeepsAnswers};
+
+// A clause whose marks are kept: those that are kept go to the call rows that they have not gone to yet, and the new ones to all.
+pub fn end_kept<'a>(
+    words: &'a [u16],
+    dir: &'a [u16],
+    table: &mut [u16],
+    buckets: &mut [u16],
+    heads: &[u16],
+    seen: &mut [u16],
+    answers: &mut [u16],
+    found: &mut [u16],
+    kept: &mut [u16],
+    noted: &mut [u16],
+    unifiers: &mut [u32],
+    n: usize,
+    at: Round,
+    k: usize,
+) -> usize
+    requires { ⌜ HeadAsked (now words) (now dir) (now table) (now heads) (at .since) (at .rows) k × Writable (now table) (now buckets) n (at .room) × (at .rows ≤ n)
+        × Scratch (now seen) (now answers) (now found) × Keeps (now words) (now dir) (now table) (now kept) (at .rows) n
+        × KeepsAnswers (now words) (now dir) (now table) (now noted) (at .rows)
+        × (getD (now dir) (clauseVars + k) 0 ≤ keptVars) × HeadNotes (now words) (now dir) k (now unifiers) ⌝ }
+    ensures { λ r. ⌜ Scratch (now (seen .exit)) (now (answers .exit)) (now (found .exit))
+        × ((w : HeadAsked (now (words .entry)) (now (dir .entry)) (now (table .entry)) (now (heads .entry)) (at .since) (at .rows) k)
+        → Stepped (w .situation .p) (keysOf (now (table .entry)) (at .rows)) (at .number) (at .room) n (now (table .entry)) (now (buckets .entry))
+        (WithHead (w .situation .p) (keysOf (now (table .entry)) (at .since)) (keysOf (now (table .entry)) (at .rows)) k) r (now (table .exit)) (now (buckets .exit)))
+        × (r ≤ at .room → Keeps (now (words .entry)) (now (dir .entry)) (now (table .exit)) (now (kept .exit)) (at .rows) r)
+        × (r ≤ at .room → KeepsAnswers (now (words .entry)) (now (dir .entry)) (now (table .exit)) (now (noted .exit)) (at .rows)) ⌝ }
+{
+    let before = at.rows;
+    let all = 1usize << wide(dir[CLAUSE_VARS + k]);
+    let mut known = wide(kept[KEPT_ROWS + k]);
+    if at.since < known {
+        known = at.since;
+    }
+    head_marks(
+        words,
+        dir,
+        table,
+        heads,
+        seen,
+        answers,
+        known,
+        before,
+        k,
+        found,
+        noted,
+        unifiers,
+    );
+    let mut marks = 0;
+    if new_marks(kept, k, found) {
+        marks = all;
+    }
+    let from = Round {
+        number: at.number,
+        since: known,
+        rows: before,
+        room: at.room,
+    };
+    let first = KEPT_SET * k;
+    let end = first + KEPT_SET;
+    let rows = at_head(
+        words,
+        dir,
+        table,
+        buckets,
+        heads,
+        seen,
+        answers,
+        n,
+        from,
+        k,
+        &kept[first..end],
+        all,
+        found,
+        marks,
+        unifiers,
+    );
+    keep(found, k, kept);
+    clear(found, KEPT_SET);
+    kept[KEPT_ROWS + k] = narrow(before);
+    rows
+}
