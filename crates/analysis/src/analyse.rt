@@ -49,7 +49,6 @@ pub fn tabled(words: &[u16], dir: &mut [u16], table: &mut [u16]) -> Reply
 {
     let mut buckets = [0u16; 2048];
     let mut heads = [0u16; 3075];
-    let mut seen = [0u16; 4096];
     let mut answers = [0u16; 4096];
     let mut found = [0u16; 4096];
     let mut kept = [0u16; 2112];
@@ -62,7 +61,6 @@ pub fn tabled(words: &[u16], dir: &mut [u16], table: &mut [u16]) -> Reply
         table,
         &mut buckets,
         &mut heads,
-        &mut seen,
         &mut answers,
         &mut found,
         &mut kept,

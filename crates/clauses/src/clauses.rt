@@ -74,7 +74,6 @@ pub fn clause<'a>(
     table: &mut [u16],
     buckets: &mut [u16],
     heads: &[u16],
-    seen: &mut [u16],
     answers: &mut [u16],
     found: &mut [u16],
     kept: &mut [u16],
@@ -84,9 +83,9 @@ pub fn clause<'a>(
     k: usize,
 ) -> usize
     requires { ⌜ HeadAsked (now words) (now dir) (now table) (now heads) (at .since) (at .rows) k × Writable (now table) (now buckets) n (at .room) × (at .rows ≤ n)
-        × Scratch (now seen) (now answers) (now found) × Keeps (now words) (now dir) (now table) (now kept) (at .rows) n
+        × Scratch (now answers) (now found) × Keeps (now words) (now dir) (now table) (now kept) (at .rows) n
         × KeepsAnswers (now words) (now dir) (now table) (now noted) (at .rows) ⌝ }
-    ensures { λ r. ⌜ Scratch (now (seen .exit)) (now (answers .exit)) (now (found .exit))
+    ensures { λ r. ⌜ Scratch (now (answers .exit)) (now (found .exit))
         × ((w : HeadAsked (now (words .entry)) (now (dir .entry)) (now (table .entry)) (now (heads .entry)) (at .since) (at .rows) k)
         → Stepped (w .situation .p) (keysOf (now (table .entry)) (at .rows)) (at .number) (at .room) n (now (table .entry)) (now (buckets .entry))
         (Keyed (w .situation .p) (NewIn modes (w .situation .p) (RowsIn (w .situation .p) (keysOf (now (table .entry)) (at .since))) (RowsIn (w .situation .p) (keysOf (now (table .entry)) (at .rows))) k)) r (now (table .exit)) (now (buckets .exit)))
@@ -104,7 +103,7 @@ pub fn clause<'a>(
             table,
             buckets,
             heads,
-            seen,
+            found,
             answers,
             noted,
             rows,
@@ -122,7 +121,6 @@ pub fn clause<'a>(
         table,
         buckets,
         heads,
-        seen,
         answers,
         found,
         kept,

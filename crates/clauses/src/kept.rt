@@ -27,7 +27,6 @@ pub fn end_kept<'a>(
     table: &mut [u16],
     buckets: &mut [u16],
     heads: &[u16],
-    seen: &mut [u16],
     answers: &mut [u16],
     found: &mut [u16],
     kept: &mut [u16],
@@ -38,10 +37,10 @@ pub fn end_kept<'a>(
     k: usize,
 ) -> usize
     requires { ⌜ HeadAsked (now words) (now dir) (now table) (now heads) (at .since) (at .rows) k × Writable (now table) (now buckets) n (at .room) × (at .rows ≤ n)
-        × Scratch (now seen) (now answers) (now found) × Keeps (now words) (now dir) (now table) (now kept) (at .rows) n
+        × Scratch (now answers) (now found) × Keeps (now words) (now dir) (now table) (now kept) (at .rows) n
         × KeepsAnswers (now words) (now dir) (now table) (now noted) (at .rows)
         × (getD (now dir) (clauseVars + k) 0 ≤ keptVars) × HeadNotes (now words) (now dir) k (now unifiers) ⌝ }
-    ensures { λ r. ⌜ Scratch (now (seen .exit)) (now (answers .exit)) (now (found .exit))
+    ensures { λ r. ⌜ Scratch (now (answers .exit)) (now (found .exit))
         × ((w : HeadAsked (now (words .entry)) (now (dir .entry)) (now (table .entry)) (now (heads .entry)) (at .since) (at .rows) k)
         → Stepped (w .situation .p) (keysOf (now (table .entry)) (at .rows)) (at .number) (at .room) n (now (table .entry)) (now (buckets .entry))
         (WithHead (w .situation .p) (keysOf (now (table .entry)) (at .since)) (keysOf (now (table .entry)) (at .rows)) k) r (now (table .exit)) (now (buckets .exit)))
@@ -59,7 +58,6 @@ pub fn end_kept<'a>(
         dir,
         table,
         heads,
-        seen,
         answers,
         known,
         before,
@@ -86,7 +84,6 @@ pub fn end_kept<'a>(
         table,
         buckets,
         heads,
-        seen,
         answers,
         n,
         from,

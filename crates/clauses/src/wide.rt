@@ -21,7 +21,6 @@ pub fn end_wide<'a>(
     table: &mut [u16],
     buckets: &mut [u16],
     heads: &[u16],
-    seen: &mut [u16],
     answers: &mut [u16],
     found: &mut [u16],
     noted: &mut [u16],
@@ -31,9 +30,9 @@ pub fn end_wide<'a>(
     k: usize,
 ) -> usize
     requires { ⌜ HeadAsked (now words) (now dir) (now table) (now heads) (at .since) (at .rows) k × Writable (now table) (now buckets) n (at .room) × (at .rows ≤ n)
-        × Scratch (now seen) (now answers) (now found) × KeepsAnswers (now words) (now dir) (now table) (now noted) (at .rows)
+        × Scratch (now answers) (now found) × KeepsAnswers (now words) (now dir) (now table) (now noted) (at .rows)
         × HeadNotes (now words) (now dir) k (now unifiers) ⌝ }
-    ensures { λ r. ⌜ Scratch (now (seen .exit)) (now (answers .exit)) (now (found .exit))
+    ensures { λ r. ⌜ Scratch (now (answers .exit)) (now (found .exit))
         × ((w : HeadAsked (now (words .entry)) (now (dir .entry)) (now (table .entry)) (now (heads .entry)) (at .since) (at .rows) k)
         → Stepped (w .situation .p) (keysOf (now (table .entry)) (at .rows)) (at .number) (at .room) n (now (table .entry)) (now (buckets .entry))
         (WithHead (w .situation .p) (keysOf (now (table .entry)) (at .since)) (keysOf (now (table .entry)) (at .rows)) k) r (now (table .exit)) (now (buckets .exit)))
@@ -51,7 +50,6 @@ pub fn end_wide<'a>(
         dir,
         table,
         heads,
-        seen,
         answers,
         since,
         before,
@@ -68,7 +66,6 @@ pub fn end_wide<'a>(
         table,
         buckets,
         heads,
-        seen,
         answers,
         n,
         at,

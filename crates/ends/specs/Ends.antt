@@ -21,9 +21,8 @@ AtEnd p ks₀ ks k key = Keyed p (NewEnds modes p (RowsIn p ks₀) (RowsIn p ks)
 abbrev pub WithHead : Program → List ℕ → List ℕ → ℕ → ℕ → Type 0
 WithHead p ks₀ ks k key = Keyed p (NewGoesOn modes p (RowsIn p ks₀) (RowsIn p ks) k 0) key ⊎ AtEnd p ks₀ ks k key
 
--- the scratch of a round: nothing seen, nothing found, and a list for the answers
-pub record Scratch (seen answers found : List ℕ) : Type 0 where
-  pub none-seen : seen ≡ replicate setWords 0
+-- the scratch of a round: a list for the answers, and nothing found
+pub record Scratch (answers found : List ℕ) : Type 0 where
   pub all-answers : length answers ≡ 4096
   pub none-found : found ≡ replicate setWords 0
 

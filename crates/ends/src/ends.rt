@@ -13,14 +13,13 @@ ghost use Rattle.steps.specs.Heads.{HeadMark, Marked, Told};
 ghost use Rattle.joining.specs.KeptAnswers.{KeepsAnswers};
 ghost use Rattle.ends.specs.Ends.{HeadNotes};
 
-// Marks on the head of clause k that result from rows since `since`, into the set. Says whether there can be any. A clause without a body notes what comes
+// Marks on the head of clause k that result from rows since `since`, into the set, which is empty at first. Says whether there can be any. A clause without a body notes what comes
 // of shapes and its head.
 pub fn head_marks<'a>(
     words: &'a [u16],
     dir: &'a [u16],
     table: &[u16],
     heads: &[u16],
-    seen: &mut [u16],
     answers: &mut [u16],
     since: usize,
     before: usize,
@@ -29,11 +28,9 @@ pub fn head_marks<'a>(
     noted: &mut [u16],
     unifiers: &mut [u32],
 ) -> bool
-    requires { ⌜ HeadAsked (now words) (now dir) (now table) (now heads) since before k × (length (now found) ≡ setWords)
-        × (now seen ≡ replicate setWords 0) × (length (now answers) ≡ 4096) × KeepsAnswers (now words) (now dir) (now table) (now noted) before
+    requires { ⌜ HeadAsked (now words) (now dir) (now table) (now heads) since before k × (now found ≡ replicate setWords 0) × (length (now answers) ≡ 4096) × KeepsAnswers (now words) (now dir) (now table) (now noted) before
         × HeadNotes (now words) (now dir) k (now unifiers) ⌝ }
-    ensures { λ r. ⌜ (now (seen .exit) ≡ replicate setWords 0)
-        × KeepsAnswers (now (words .entry)) (now (dir .entry)) (now (table .entry)) (now (noted .exit)) before
+    ensures { λ r. ⌜ KeepsAnswers (now (words .entry)) (now (dir .entry)) (now (table .entry)) (now (noted .exit)) before
         × ((w : HeadAsked (now (words .entry)) (now (dir .entry)) (now (table .entry)) (now (heads .entry)) since before k)
         → Marked (HeadMark (w .situation .p) (now (table .entry)) since before k (length (w .clause .c .body))) (now (found .entry)) (now (found .exit))
         × Told (HeadMark (w .situation .p) (now (table .entry)) since before k (length (w .clause .c .body))) r)
@@ -50,7 +47,6 @@ pub fn head_marks<'a>(
         dir,
         table,
         heads,
-        seen,
         answers,
         noted,
         since,

@@ -91,7 +91,6 @@ fn at_shape(
     head: Head,
     table: &mut [u16],
     buckets: &mut [u16],
-    seen: &mut [u16],
     solved: &mut [u16],
     n: usize,
     at: Round,
@@ -104,9 +103,8 @@ fn at_shape(
     marks: usize,
 ) -> usize
     requires { ⌜ AtShape (now dir) (now order) (now table) (now sets) (now known) (now found) (head .count) (at .since) (at .rows) s newest (head .there) (head .first) (head .end) «known_marks» marks
-        × Writable (now table) (now buckets) n (at .room) × (at .rows ≤ n) × (now seen ≡ replicate setWords 0) × (length (now solved) ≡ setWords) ⌝ }
-    ensures { λ r. ⌜ (now (seen .exit) ≡ replicate setWords 0)
-        × ((a : AtShape (now (dir .entry)) (now (order .entry)) (now (table .entry)) (now (sets .entry)) (now (known .entry)) (now (found .entry)) (head .count) (at .since) (at .rows) s newest (head .there) (head .first) (head .end) «known_marks» marks)
+        × Writable (now table) (now buckets) n (at .room) × (at .rows ≤ n) × (length (now solved) ≡ setWords) ⌝ }
+    ensures { λ r. ⌜ ((a : AtShape (now (dir .entry)) (now (order .entry)) (now (table .entry)) (now (sets .entry)) (now (known .entry)) (now (found .entry)) (head .count) (at .since) (at .rows) s newest (head .there) (head .first) (head .end) «known_marks» marks)
         → Stepped (a .p) (keysOf (now (table .entry)) (at .rows)) (at .number) (at .room) n (now (table .entry)) (now (buckets .entry))
         (ShapeGives (a .p) (keysOf (now (table .entry)) (at .since)) (keysOf (now (table .entry)) (at .rows)) (a .k) (now (known .entry)) (now (found .entry)) s) r (now (table .exit)) (now (buckets .exit))) ⌝ }
 {
@@ -149,7 +147,6 @@ fn at_shape(
         known_marks,
         found,
         marks,
-        seen,
         solved,
     )
 }
@@ -163,7 +160,6 @@ fn of_shape<'a>(
     table: &mut [u16],
     buckets: &mut [u16],
     heads: &[u16],
-    seen: &mut [u16],
     solved: &mut [u16],
     n: usize,
     at: Round,
@@ -176,10 +172,9 @@ fn of_shape<'a>(
     unifiers: &mut [u32],
 ) -> usize
     requires { ⌜ OfShape (now words) (now dir) (now order) (now table) (now heads) (now known) (now found) (head .start) (head .cells) (head .there) (head .first) (head .end) (head .count) (at .since) (at .rows) s «from» «known_marks» marks
-        × Writable (now table) (now buckets) n (at .room) × (at .rows ≤ n) × (now seen ≡ replicate setWords 0) × (length (now solved) ≡ setWords)
+        × Writable (now table) (now buckets) n (at .room) × (at .rows ≤ n) × (length (now solved) ≡ setWords)
         × Notes (now words) (now dir) (head .start) (head .cells) (now unifiers) ⌝ }
-    ensures { λ r. ⌜ (now (seen .exit) ≡ replicate setWords 0)
-        × ((a : OfShape (now (words .entry)) (now (dir .entry)) (now (order .entry)) (now (table .entry)) (now (heads .entry)) (now (known .entry)) (now (found .entry)) (head .start) (head .cells) (head .there) (head .first) (head .end) (head .count) (at .since) (at .rows) s «from» «known_marks» marks)
+    ensures { λ r. ⌜ ((a : OfShape (now (words .entry)) (now (dir .entry)) (now (order .entry)) (now (table .entry)) (now (heads .entry)) (now (known .entry)) (now (found .entry)) (head .start) (head .cells) (head .there) (head .first) (head .end) (head .count) (at .since) (at .rows) s «from» «known_marks» marks)
         → Stepped (a .at-head .head .situation .p) (keysOf (now (table .entry)) (at .rows)) (at .number) (at .room) n (now (table .entry)) (now (buckets .entry))
         (ShapeGives (a .at-head .head .situation .p) (keysOf (now (table .entry)) (at .since)) (keysOf (now (table .entry)) (at .rows)) (a .k) (now (known .entry)) (now (found .entry)) s) r (now (table .exit)) (now (buckets .exit)))
         × Notes (now (words .entry)) (now (dir .entry)) (head .start) (head .cells) (now (unifiers .exit)) ⌝ }
@@ -198,7 +193,6 @@ fn of_shape<'a>(
         head,
         table,
         buckets,
-        seen,
         solved,
         n,
         at,
@@ -220,7 +214,6 @@ pub fn at_head<'a>(
     table: &mut [u16],
     buckets: &mut [u16],
     heads: &[u16],
-    seen: &mut [u16],
     solved: &mut [u16],
     n: usize,
     at: Round,
@@ -232,10 +225,9 @@ pub fn at_head<'a>(
     unifiers: &mut [u32],
 ) -> usize
     requires { ⌜ AtHead (now words) (now dir) (now table) (now heads) (now known) (now found) (at .since) (at .rows) k «known_marks» marks
-        × Writable (now table) (now buckets) n (at .room) × (at .rows ≤ n) × (now seen ≡ replicate setWords 0) × (length (now solved) ≡ setWords)
+        × Writable (now table) (now buckets) n (at .room) × (at .rows ≤ n) × (length (now solved) ≡ setWords)
         × HeadNotes (now words) (now dir) k (now unifiers) ⌝ }
-    ensures { λ r. ⌜ (now (seen .exit) ≡ replicate setWords 0)
-        × ((a : AtHead (now (words .entry)) (now (dir .entry)) (now (table .entry)) (now (heads .entry)) (now (known .entry)) (now (found .entry)) (at .since) (at .rows) k «known_marks» marks)
+    ensures { λ r. ⌜ ((a : AtHead (now (words .entry)) (now (dir .entry)) (now (table .entry)) (now (heads .entry)) (now (known .entry)) (now (found .entry)) (at .since) (at .rows) k «known_marks» marks)
         → Stepped (a .head .situation .p) (keysOf (now (table .entry)) (at .rows)) (at .number) (at .room) n (now (table .entry)) (now (buckets .entry))
         (HeadGives (a .head .situation .p) (keysOf (now (table .entry)) (at .since)) (keysOf (now (table .entry)) (at .rows)) k (now (known .entry)) (now (found .entry))) r (now (table .exit)) (now (buckets .exit)))
         × HeadNotes (now (words .entry)) (now (dir .entry)) k (now (unifiers .exit)) ⌝ }
@@ -257,7 +249,6 @@ pub fn at_head<'a>(
             table,
             buckets,
             heads,
-            seen,
             solved,
             rows,
             at,

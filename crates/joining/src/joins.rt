@@ -232,13 +232,12 @@ fn mark_conts(
 }
 
 // Past body atom j, its clause's last: marks on the head, which has the variables `there`, of combinations with a row from `since` on.
-// Says whether marks result.
+// Says whether marks result. The set is empty at first, and serves the listing of the answers too.
 pub fn last_place<'a>(
     words: &'a [u16],
     dir: &'a [u16],
     table: &[u16],
     heads: &[u16],
-    seen: &mut [u16],
     answers: &mut [u16],
     noted: &mut [u16],
     since: usize,
@@ -247,10 +246,8 @@ pub fn last_place<'a>(
     there: u16,
     found: &mut [u16],
 ) -> bool
-    requires { ⌜ LastAsked (now words) (now dir) (now table) (now heads) since before j there × (length (now found) ≡ setWords)
-        × (now seen ≡ replicate setWords 0) × (length (now answers) ≡ 4096) × KeepsAnswers (now words) (now dir) (now table) (now noted) before ⌝ }
-    ensures { λ r. ⌜ (now (seen .exit) ≡ replicate setWords 0)
-        × KeepsAnswers (now (words .entry)) (now (dir .entry)) (now (table .entry)) (now (noted .exit)) before
+    requires { ⌜ LastAsked (now words) (now dir) (now table) (now heads) since before j there × (now found ≡ replicate setWords 0) × (length (now answers) ≡ 4096) × KeepsAnswers (now words) (now dir) (now table) (now noted) before ⌝ }
+    ensures { λ r. ⌜ KeepsAnswers (now (words .entry)) (now (dir .entry)) (now (table .entry)) (now (noted .exit)) before
         × ((w : Situation (now (words .entry)) (now (dir .entry)) (now (table .entry)) (now (heads .entry)) since before) (b : BodyOf (w .p) j)
         → Marked (HeadMark (w .p) (now (table .entry)) since before (b .k) (suc (b .i))) (now (found .entry)) (now (found .exit))
         × Told (HeadMark (w .p) (now (table .entry)) since before (b .k) (suc (b .i))) r) ⌝ }
@@ -264,7 +261,7 @@ pub fn last_place<'a>(
         dir,
         table,
         heads,
-        seen,
+        found,
         answers,
         noted,
         since,

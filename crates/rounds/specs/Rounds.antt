@@ -22,12 +22,12 @@ use Rattle.joining.specs.KeptAnswers.{answerWords}
 use Rattle.ends.specs.Keeping.{keptWords}
 
 -- "Round 0 has one row, the goal's call": nothing is there before it
-pub record RoundsAsked (words dir table buckets heads seen answers found kept noted : List ℕ) (room : ℕ) : Type 0 where
+pub record RoundsAsked (words dir table buckets heads answers found kept noted : List ℕ) (room : ℕ) : Type 0 where
   pub p : Program
   pub setting : Setting words dir p
   pub no-buckets : buckets ≡ replicate bucketCount 0
   pub no-heads : heads ≡ replicate slots 0
-  pub scratch : Scratch seen answers found
+  pub scratch : Scratch answers found
   pub none-kept : kept ≡ replicate keptWords 0
   pub none-noted : noted ≡ replicate answerWords 0
   pub room-most : room ≤ maxRows

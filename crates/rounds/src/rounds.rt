@@ -30,7 +30,6 @@ fn look<'a>(
     table: &mut [u16],
     buckets: &mut [u16],
     heads: &[u16],
-    seen: &mut [u16],
     answers: &mut [u16],
     found: &mut [u16],
     kept: &mut [u16],
@@ -41,9 +40,9 @@ fn look<'a>(
     concerns: u64,
 ) -> usize
     requires { ⌜ LookAsked (now words) (now dir) (now table) (now heads) (at .since) (at .rows) k concerns × Writable (now table) (now buckets) n (at .room) × (at .rows ≤ n)
-        × Scratch (now seen) (now answers) (now found) × Keeps (now words) (now dir) (now table) (now kept) (at .rows) n
+        × Scratch (now answers) (now found) × Keeps (now words) (now dir) (now table) (now kept) (at .rows) n
         × KeepsAnswers (now words) (now dir) (now table) (now noted) (at .rows) ⌝ }
-    ensures { λ r. ⌜ Scratch (now (seen .exit)) (now (answers .exit)) (now (found .exit))
+    ensures { λ r. ⌜ Scratch (now (answers .exit)) (now (found .exit))
         × ((w : HeadAsked (now (words .entry)) (now (dir .entry)) (now (table .entry)) (now (heads .entry)) (at .since) (at .rows) k)
         → Stepped (w .situation .p) (keysOf (now (table .entry)) (at .rows)) (at .number) (at .room) n (now (table .entry)) (now (buckets .entry))
         (Keyed (w .situation .p) (NewIn modes (w .situation .p) (RowsIn (w .situation .p) (keysOf (now (table .entry)) (at .since))) (RowsIn (w .situation .p) (keysOf (now (table .entry)) (at .rows))) k)) r (now (table .exit)) (now (buckets .exit)))
@@ -57,7 +56,6 @@ fn look<'a>(
             table,
             buckets,
             heads,
-            seen,
             answers,
             found,
             kept,
@@ -77,7 +75,6 @@ fn round<'a>(
     table: &mut [u16],
     buckets: &mut [u16],
     heads: &[u16],
-    seen: &mut [u16],
     answers: &mut [u16],
     found: &mut [u16],
     kept: &mut [u16],
@@ -87,9 +84,9 @@ fn round<'a>(
     at: Round,
 ) -> usize
     requires { ⌜ RoundAsked (now words) (now dir) (now table) (now heads) (now headed) (now bodied) (at .since) (at .rows) × Writable (now table) (now buckets) (at .rows) (at .room)
-        × Scratch (now seen) (now answers) (now found) × Keeps (now words) (now dir) (now table) (now kept) (at .rows) (at .rows)
+        × Scratch (now answers) (now found) × Keeps (now words) (now dir) (now table) (now kept) (at .rows) (at .rows)
         × KeepsAnswers (now words) (now dir) (now table) (now noted) (at .rows) ⌝ }
-    ensures { λ r. ⌜ Scratch (now (seen .exit)) (now (answers .exit)) (now (found .exit))
+    ensures { λ r. ⌜ Scratch (now (answers .exit)) (now (found .exit))
         × ((w : Situation (now (words .entry)) (now (dir .entry)) (now (table .entry)) (now (heads .entry)) (at .since) (at .rows))
         → Stepped (w .p) (keysOf (now (table .entry)) (at .rows)) (at .number) (at .room) (at .rows) (now (table .entry)) (now (buckets .entry))
         (Keyed (w .p) (NewGives modes (w .p) (RowsIn (w .p) (keysOf (now (table .entry)) (at .since))) (RowsIn (w .p) (keysOf (now (table .entry)) (at .rows))))) r (now (table .exit)) (now (buckets .exit)))
@@ -108,7 +105,6 @@ fn round<'a>(
             table,
             buckets,
             heads,
-            seen,
             answers,
             found,
             kept,
@@ -133,14 +129,13 @@ pub fn rounds<'a>(
     table: &mut [u16],
     buckets: &mut [u16],
     heads: &mut [u16],
-    seen: &mut [u16],
     answers: &mut [u16],
     found: &mut [u16],
     kept: &mut [u16],
     noted: &mut [u16],
     room: usize,
 ) -> usize
-    requires { ⌜ RoundsAsked (now words) (now dir) (now table) (now buckets) (now heads) (now seen) (now answers) (now found) (now kept) (now noted) room ⌝ }
+    requires { ⌜ RoundsAsked (now words) (now dir) (now table) (now buckets) (now heads) (now answers) (now found) (now kept) (now noted) room ⌝ }
     ensures { λ r. ⌜ ((p : Program) → Setting (now (words .entry)) (now (dir .entry)) p → Finished p room r (now (table .exit))) ⌝ }
 {
     let mut headed = [0u64; 64];
@@ -167,7 +162,6 @@ pub fn rounds<'a>(
             table,
             buckets,
             heads,
-            seen,
             answers,
             found,
             kept,

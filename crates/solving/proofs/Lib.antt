@@ -2,4 +2,5 @@
 pub mod SolveLaws
 pub mod SolveCalls
 pub mod SolveShape
+pub mod ClearedSets
 pub mod SolveSets

@@ -24,7 +24,7 @@ use Rattle.table.specs.Keys.{keyOf}
 use Rattle.table.specs.RoundKeys.{Keyed}
 use Rattle.table.proofs.Added.{behind-keeps}
 use Rattle.steps.specs.Steps.{RowsIn, Given, Writable, Grew, Stepped}
-use Rattle.solving.specs.Solving.{ToShape, SolvedBy, SetKeys, CallsAsked}
+use Rattle.solving.specs.Solving.{ToShape, SolvedBy, SetKeys, PutFor, CallsAsked}
 use Rattle.steps.proofs.Stepping.{grew-none, grew-must, stepped-then, stepped-within, stepped-past, added-stepped}
 use Rattle.steps.proofs.SlotRows.{in-slot}
 use Rattle.solving.proofs.SolveLaws.{late-row, to-shape-below, call-there, solution-key, passes-own, both-variables, solution-given}
@@ -35,11 +35,12 @@ pub record SolvedRow (table₀ : List ℕ) (slot mask : ℕ) (table : List ℕ) 
   pub together : Together (maskAt table₀ r) mask R
   pub there : List·Memᴰ (rowKey slot R) (keysOf table rows)
 
--- the walk has come to the link: rows were added behind the first n, and those of the masks in the set are there
+-- the walk has come to the link: rows were added behind the first n, those of the masks in the set are there, and what was put in is of the shape's variables
 pub record Going {table₀ solved₀ : List ℕ} {since old newest slot mask n : ℕ} (a : CallsAsked table₀ solved₀ since old newest slot mask n) (round room : ℕ) (buckets₀ : List ℕ)
     (link rows : ℕ) (table buckets solved : List ℕ) : Type 0 where
   pub grew : Grew (a .to .p) (keysOf table₀ old) round room n table₀ buckets₀ (SetKeys (a .to .S) slot solved) rows table buckets
   pub walked : Walked (slotAt table₀) (a .to .s) old link (SolvedRow table₀ slot mask table rows)
+  pub put : PutFor (a .to .S) solved₀ solved
 
 -- the call row at the link has its solution row, of mask R, and no row is lost
 pub record Turned {table₀ solved₀ : List ℕ} {since old newest slot mask n : ℕ} (a : CallsAsked table₀ solved₀ since old newest slot mask n) (round room : ℕ) (buckets₀ : List ℕ)
@@ -65,6 +66,7 @@ module _ {table₀ solved₀ : List ℕ} {since old newest slot mask n : ℕ} (a
         walked = rw (w .newest-is)
             (chain-begins (slotAt table₀) (beforeAt table₀) (w .heads) old (w .chains .by-slot) (w .s) (SolvedRow table₀ slot mask table₀ n)
             (rw (w .chains .all-heads) (omega (arith, to-shape-below w))));
+        put = λ N. inl;
       }
 
   module _ (link rows : ℕ) (table buckets solved : List ℕ) (g : At link rows table buckets solved) where
@@ -91,6 +93,12 @@ module _ {table₀ solved₀ : List ℕ} {since old newest slot mask n : ℕ} (a
             call-there w (link - 1) going-row
             (chain-row-class (slotAt table₀) (beforeAt table₀) (w .heads) old (w .chains .by-slot) (w .s) _ link (g .walked) h)
 
+        of-shape : (v : ℕ) → Has R v → Occ v (w .S)
+        of-shape = both-variables w mask (a .q) (a .passes) (maskAt table₀ (link - 1)) R its-call here
+
+        pub put-more : PutFor (w .S) solved₀ solved′
+        put-more N h = ⊎-elim (g .put N) (λ e. inr (subst (λ (M : ℕ). (v : ℕ) → Has M v → Occ v (w .S)) (sym e) of-shape)) (ins .members N .0 h)
+
         -- the set has the masks that it had, and R
         set-keys : (key : ℕ) → SetKeys (w .S) slot solved′ key → SetKeys (w .S) slot solved key ⊎ (key ≡ rowKey slot R)
         set-keys key (N, of, in-set, e) = ⊎-elim (λ o. inl (N, of, o, e)) (λ d. inr (e ∙ ap (λ (M : ℕ). rowKey slot M) d)) (ins .members N .0 in-set)
@@ -106,9 +114,6 @@ module _ {table₀ solved₀ : List ℕ} {since old newest slot mask n : ℕ} (a
               keeps = λ key m. m;
             }
           where
-            of-shape : (v : ℕ) → Has R v → Occ v (w .S)
-            of-shape = both-variables w mask (a .q) (a .passes) (maskAt table₀ (link - 1)) R its-call here
-
             was-in : InSet solved R
             was-in = was-there solved solved′ R new ins old-one
 
@@ -161,6 +166,7 @@ module _ {table₀ solved₀ : List ℕ} {since old newest slot mask n : ℕ} (a
                     (chain-goes-on (slotAt table₀) (beforeAt table₀) (w .heads) old (w .chains .by-slot) (w .s) (SolvedRow table₀ slot mask table′ r) link
                     (walked-same (slotAt table₀) (slotAt table₀) (w .s) old link (SolvedRow table₀ slot mask table rows) (SolvedRow table₀ slot mask table′ r) (λ x b. refl) (λ x b. still x) (g .walked))
                     h (record { R = R; together = here; there = t .there }));
+                put = put-more;
               }
 
           pub going-falls : (next : ℕ) → next ≡ beforeAt table′ (link - 1) → next < link

@@ -1,12 +1,12 @@
 -- Rule 3 for one call row: marks that pass beside the shape's own, marks kept to the head's variables, and the solution row that they give.
-use Prim.Native.Nat.{ℕ, _≤_, _<_}
+use Prim.Native.Nat.{ℕ, _+_, _≤_, _<_}
 use native.Mathlib.Omega.{arith}
 use native.Mathlib.Decide.{decLt}
 use mathlib.Core.Path.{_≡_, refl, sym, subst}
 use mathlib.Core.Logic.{_⊎_, inl, inr, ⊎-elim, ⊎-map}
 use mathlib.Core.List.{List}
 use lib.ListN.{length, getD}
-use lib.Bits.{bitOr, and-le-r}
+use lib.Bits.{bitOr, and-le-r, or-shifted}
 use Rattle.terms.specs.Term.{Term, Occ, All}
 use Rattle.terms.specs.Mask.{Has}
 use Rattle.terms.proofs.Substs.{all-occ, occ-all}
@@ -29,7 +29,7 @@ use Rattle.table.proofs.NewRows.{new-reached}
 use Rattle.steps.specs.Steps.{RowsIn, Given}
 use Rattle.steps.specs.Situation.{Chains}
 use Rattle.steps.specs.Heads.{HeadMark}
-use Rattle.solving.specs.Solving.{ToShape, PassesTo, SolvedBy}
+use Rattle.solving.specs.Solving.{ToShape, PassesTo, SolvedBy, passedMark}
 use Rattle.steps.proofs.SlotRows.{at-slot, in-slot}
 use Rattle.steps.proofs.ShapeLinks.{shape-below}
 
@@ -88,6 +88,10 @@ none-late p table heads since old from s C chains few l new =
 pub mask-within : {S : Term} {here : ℕ} (N : ℕ) → VariablesOf S here → ((v : ℕ) → Has N v → Occ v S) → N ≤ here
 mask-within {here = here} N all of =
     rw (sym (inside-and N here .1 (λ v h. all .marked v .1 (of v h)))) (and-le-r N here)
+
+-- the mark of variable 15 beside marks that have it not
+pub passed-bit : (mask : ℕ) → mask < passedMark → bitOr passedMark mask ≡ passedMark + mask
+passed-bit mask l = or-shifted 1 15 mask l
 
 -- a call row's marks are of its shape's variables
 pub call-variables : {p : Program} {s M : ℕ} {S : Term} → Nth (shapes p) s S → Regular p (call s M) → (v : ℕ) → Has M v → Occ v S

@@ -6,7 +6,7 @@ use mathlib.Core.Path.{_≡_, sym, subst}
 use mathlib.Core.Bool.{Bool}
 use mathlib.Core.Logic.{_⊎_, inl, inr, ⊎-elim}
 use mathlib.Core.List.{List, []}
-use lib.ListN.{length, getD, replicate}
+use lib.ListN.{length, getD}
 use lib.Dec.{T}
 use Rattle.terms.specs.Cells.{variables}
 use Rattle.terms.specs.Mask.{Marks}
@@ -16,16 +16,16 @@ use Rattle.marks.specs.Passing.{MarkedIn, VariablesOf}
 use Rattle.marks.proofs.PassedOn.{second-to-first}
 use Rattle.program.specs.Program.{Program}
 use Rattle.rows.specs.Rows.{keysOf}
-use Rattle.rows.specs.MaskSet.{setWords, InSet, Inserted}
+use Rattle.rows.specs.MaskSet.{InSet}
 use Rattle.rows.specs.Store.{SameRows}
-use Rattle.rows.proofs.MaskSets.{none-in-zeros, was-there}
+use Rattle.rows.proofs.MaskSets.{was-there}
 use Rattle.table.specs.Rules.{Row, call}
 use Rattle.table.specs.Keys.{keyOf}
 use Rattle.table.specs.NewRows.{NewReached}
 use Rattle.table.specs.RoundKeys.{Keyed}
 use Rattle.steps.specs.Steps.{RowsIn, Writable, Grew, Stepped}
 use Rattle.steps.specs.Heads.{HeadMark, FoundOn}
-use Rattle.solving.specs.Solving.{ToShape, PassesTo, SolvedBy, SolvedBelow, SetKeys, CallsAsked, ShapeSets, FoundFor}
+use Rattle.solving.specs.Solving.{ToShape, PassesTo, SolvedBy, SolvedBelow, SetKeys, PutFor, passedMark, NoneSolved, FirstPassed, CallsAsked, ShapeSets, FoundFor}
 use Rattle.steps.proofs.Stepping.{keys-stay, grew-none, grew-must, stepped-then, stepped-within, stepped-past}
 use Rattle.steps.proofs.SlotRows.{chains-stay}
 use Rattle.solving.proofs.SolveLaws.{mask-within, passes-variables, solved-alike}
@@ -101,37 +101,37 @@ PassedBelow w found q N = (m : ℕ) × (m < q) × InSet found m × PassesTo w N 
 abbrev Due : {table : List ℕ} {since old newest slot : ℕ} → ToShape table since old newest slot → ℕ → List ℕ → ℕ → List ℕ → ℕ → Type 0
 Due {slot = slot} w from found q solved key = Keyed (w .p) (SolvedBelow w from found q) key ⊎ SetKeys (w .S) slot solved key
 
--- the marks below q were passed to the shape, and what was passed is in `seen`
-pub record Through {table₀ : List ℕ} {since old newest slot : ℕ} (w : ToShape table₀ since old newest slot) (from : ℕ) (found : List ℕ) (round room n : ℕ) (buckets₀ : List ℕ)
-    (q rows : ℕ) (table buckets seen solved : List ℕ) : Type 0 where
+-- the marks below q were passed to the shape, and those in `solved` with the mark of variable 15, where the shape has no such variable, are among what was passed
+pub record Through {table₀ : List ℕ} {since old newest slot : ℕ} (w : ToShape table₀ since old newest slot) (here from : ℕ) (found : List ℕ) (round room n : ℕ) (buckets₀ : List ℕ)
+    (q rows : ℕ) (table buckets solved : List ℕ) : Type 0 where
   pub grew : Grew (w .p) (keysOf table₀ old) round room n table₀ buckets₀ (Due w from found q solved) rows table buckets
-  pub seen-passed : (N : ℕ) → InSet seen N → PassedBelow w found q N
+  pub passed-before : here < passedMark → (N : ℕ) → N ≤ here → InSet solved (passedMark + N) → PassedBelow w found q N
 
-module _ {table₀ : List ℕ} {since old newest slot : ℕ} (w : ToShape table₀ since old newest slot) (from : ℕ) (found : List ℕ) (round room n : ℕ) (buckets₀ : List ℕ) where
-  abbrev At : ℕ → ℕ → List ℕ → List ℕ → List ℕ → List ℕ → Type 0
-  At q rows table buckets seen solved = Through w from found round room n buckets₀ q rows table buckets seen solved
+module _ {table₀ : List ℕ} {since old newest slot : ℕ} (w : ToShape table₀ since old newest slot) (here : ℕ) (all : VariablesOf (w .S) here) (from : ℕ) (found : List ℕ)
+    (round room n : ℕ) (buckets₀ : List ℕ) where
+  abbrev At : ℕ → ℕ → List ℕ → List ℕ → List ℕ → Type 0
+  At q rows table buckets solved = Through w here from found round room n buckets₀ q rows table buckets solved
 
   abbrev ks : List ℕ
   ks = keysOf table₀ old
 
-  pub through-begins : (here : ℕ) (seen solved : List ℕ) → VariablesOf (w .S) here → Writable table₀ buckets₀ n room → seen ≡ replicate setWords 0
-      → ((N : ℕ) → N ≤ here → InSet solved N → ⊥) → At 0 n table₀ buckets₀ seen solved
-  through-begins here seen solved all writable none-seen none-solved =
+  pub through-begins : (solved : List ℕ) → Writable table₀ buckets₀ n room → NoneSolved solved here → At 0 n table₀ buckets₀ solved
+  through-begins solved writable none =
       record {
         grew = grew-none (w .p) ks round room n table₀ buckets₀ _ writable
-            (λ key. ⊎-elim (λ k. absurd (let b = k .1 .1 in omega arith)) (λ (N, of, in-set, e). absurd (none-solved N (mask-within N all of) in-set)));
-        seen-passed = λ N h. absurd (none-in-zeros setWords N (rw none-seen at h));
+            (λ key. ⊎-elim (λ k. absurd (let b = k .1 .1 in omega arith)) (λ (N, of, in-set, e). absurd (none N (mask-within N all of) .0 in-set)));
+        passed-before = λ l N few h. absurd (none N few .1 l h);
       }
 
-  module _ (q rows : ℕ) (table buckets seen solved : List ℕ) (t : At q rows table buckets seen solved) where
+  module _ (q rows : ℕ) (table buckets solved : List ℕ) (t : At q rows table buckets solved) where
     -- none is in the set from q on and below r
-    pub through-none : (r : ℕ) → q ≤ r → ((m : ℕ) → q ≤ m → m < r → InSet found m → ⊥) → At r rows table buckets seen solved
+    pub through-none : (r : ℕ) → q ≤ r → ((m : ℕ) → q ≤ m → m < r → InSet found m → ⊥) → At r rows table buckets solved
     through-none r l none =
         record {
           grew =
               grew-must (w .p) ks round room n rows table₀ buckets₀ table buckets (Due w from found q solved) _
               (λ key. ⊎-elim (λ (row, (m, b, i, by), e). inl (at key row m b i by e (decLt m q))) inr) (t .grew);
-          seen-passed = λ N h. let (m, b, i, passes) = t .seen-passed N h in (m, omega arith, i, passes);
+          passed-before = λ fewer N few h. let (m, b, i, passes) = t .passed-before fewer N few h in (m, omega arith, i, passes);
         }
       where
         at : (key : ℕ) (row : Row ℕ) (m : ℕ) → m < r → InSet found m → SolvedBy w from m row → key ≡ keyOf (w .p) row → Dec (m < q) → Keyed (w .p) (SolvedBelow w from found q) key
@@ -139,7 +139,7 @@ module _ {table₀ : List ℕ} {since old newest slot : ℕ} (w : ToShape table�
         at key row m b i by e (no d) = absurd (none m (omega arith) b i)
 
     -- q is not in the set
-    pub through-past : (InSet found q → ⊥) → At (q + 1) rows table buckets seen solved
+    pub through-past : (InSet found q → ⊥) → At (q + 1) rows table buckets solved
     through-past out = through-none (q + 1) (omega arith) (λ m a b i. let e : m ≡ q = omega arith in out (rw e at i))
 
     -- all that are asked for
@@ -148,31 +148,44 @@ module _ {table₀ : List ℕ} {since old newest slot : ℕ} (w : ToShape table�
         inl (grew-must (w .p) ks round room n rows table₀ buckets₀ table buckets (Due w from found q solved) _
         (λ key (row, (m, b, i, by), e). inl (row, (m, omega arith, i, by), e)) (t .grew))
 
-    -- what was passed is of the shape's variables
-    pub seen-within : (here : ℕ) → VariablesOf (w .S) here → (N : ℕ) → InSet seen N → N ≤ here
-    seen-within here all N h = let (m, b, i, passes) = t .seen-passed N h in mask-within N all (passes-variables w N m passes)
+    module _ (mask : ℕ) (first : Bool) (solved′ : List ℕ) (in-set : InSet found q) (passes : PassesTo w mask q) (fp : FirstPassed solved solved′ here mask first) where
+      -- what passes is of the shape's variables
+      mask-few : mask ≤ here
+      mask-few = mask-within mask all (passes-variables w mask q passes)
 
-    module _ (mask : ℕ) (new : Bool) (seen′ : List ℕ) (in-set : InSet found q) (passes : PassesTo w mask q) (ins : Inserted seen seen′ mask new) where
-      seen-more : (N : ℕ) → InSet seen′ N → PassedBelow w found (q + 1) N
-      seen-more N h =
-          ⊎-elim (λ o. let (m, b, i, passes′) = t .seen-passed N o in (m, omega arith, i, passes′))
-          (λ e. (q, omega arith, in-set, subst (λ (M : ℕ). PassesTo w M q) (sym e) passes)) (ins .members N .0 h)
+      passed-more : here < passedMark → (N : ℕ) → N ≤ here → InSet solved′ (passedMark + N) → PassedBelow w found (q + 1) N
+      passed-more l N few h =
+          ⊎-elim (λ o. let (m, b, i, passes′) = t .passed-before l N few o in (m, omega arith, i, passes′))
+          (λ e. let same : mask ≡ N = omega arith in (q, omega arith, in-set, subst (λ (M : ℕ). PassesTo w M q) same passes))
+          (fp .asked l (omega (arith, mask-few)) .members (passedMark + N) .0 h)
 
-      pub seen-more-within : (here : ℕ) → VariablesOf (w .S) here → (N : ℕ) → InSet seen′ N → N ≤ here
-      seen-more-within here all N h = let (m, b, i, passes′) = seen-more N h in mask-within N all (passes-variables w N m passes′)
+      -- no mask of the shape's variables was put into the set
+      pub keys-before : (key : ℕ) → SetKeys (w .S) slot solved′ key → SetKeys (w .S) slot solved key
+      keys-before key (N, of, h, e) = (N, of, at (decLt here passedMark), e)
+        where
+          at : Dec (here < passedMark) → InSet solved N
+          at (yes l) =
+              ⊎-elim (λ o. o) (λ d. absurd (let few = mask-within N all of in omega (arith, few, d)))
+              (fp .asked l (omega (arith, mask-few)) .members N .0 h)
+          at (no l) = subst (λ (set : List ℕ). InSet set N) (fp .not-asked (omega arith) .1) h
 
       -- the same was passed before, and gave the same rows
-      pub through-again : (T new → ⊥) → At (q + 1) rows table buckets seen′ solved
-      through-again old-one =
+      pub through-again : (T first → ⊥) → At (q + 1) rows table buckets solved′
+      through-again not-first =
           record {
             grew =
                 grew-must (w .p) ks round room n rows table₀ buckets₀ table buckets (Due w from found q solved) _
-                (λ key. ⊎-elim (λ (row, (m, b, i, by), e). inl (at key row m b i by e (ℕ-discrete m q))) inr) (t .grew);
-            seen-passed = seen-more;
+                (λ key. ⊎-elim (λ (row, (m, b, i, by), e). inl (at key row m b i by e (ℕ-discrete m q))) (λ k. inr (keys-before key k))) (t .grew);
+            passed-before = passed-more;
           }
         where
+          was : Dec (here < passedMark) → PassedBelow w found q mask
+          was (yes l) =
+              t .passed-before l mask mask-few (was-there solved solved′ (passedMark + mask) first (fp .asked l (omega (arith, mask-few))) not-first)
+          was (no l) = absurd (not-first (rw (fp .not-asked (omega arith) .0) tt))
+
           before : PassedBelow w found q mask
-          before = t .seen-passed mask (was-there seen seen′ mask new ins old-one)
+          before = was (decLt here passedMark)
 
           at : (key : ℕ) (row : Row ℕ) (m : ℕ) → m < q + 1 → InSet found m → SolvedBy w from m row → key ≡ keyOf (w .p) row → Dec (m ≡ q) → Keyed (w .p) (SolvedBelow w from found q) key
           at key row m b i by e (yes d) =
@@ -180,39 +193,40 @@ module _ {table₀ : List ℕ} {since old newest slot : ℕ} (w : ToShape table�
           at key row m b i by e (no d) = (row, (m, omega arith, i, by), e)
 
       module _ (behind : old ≤ n) where
-        abbrev pub calls-asked : CallsAsked table solved since old newest slot mask rows
+        abbrev pub calls-asked : CallsAsked table solved′ since old newest slot mask rows
         calls-asked =
             record {
               to = to-stays w table n behind (t .grew .same-rows) (t .grew .same-length);
               q = q;
               passes = passes-stay w table n behind (t .grew .same-rows) (t .grew .same-length) mask q passes;
-              solved-there = λ key k. t .grew .all key (inr k);
+              solved-there = λ key k. t .grew .all key (inr (keys-before key k));
             }
 
         abbrev Now : List ℕ → ℕ → Type 0
-        Now solved′ key = Keyed (w .p) (SolvedBy (calls-asked .to) from q) key ⊎ SetKeys (w .S) slot solved′ key
+        Now solved″ key = Keyed (w .p) (SolvedBy (calls-asked .to) from q) key ⊎ SetKeys (w .S) slot solved″ key
 
-        module _ (r : ℕ) (table′ buckets′ solved′ : List ℕ) (s : Stepped (w .p) (keysOf table old) round room rows table buckets (Now solved′) r table′ buckets′) where
+        module _ (r : ℕ) (table′ buckets′ solved″ : List ℕ) (s : Stepped (w .p) (keysOf table old) round room rows table buckets (Now solved″) r table′ buckets′) where
           abbrev Both : ℕ → Type 0
-          Both key = Due w from found q solved key ⊎ Now solved′ key
+          Both key = Due w from found q solved key ⊎ Now solved″ key
 
           both : Stepped (w .p) ks round room n table₀ buckets₀ Both r table′ buckets′
           both =
-              stepped-then (w .p) ks round room n rows r table₀ buckets₀ table buckets table′ buckets′ (Due w from found q solved) (Now solved′) (t .grew)
-              (subst (λ (ks′ : List ℕ). Stepped (w .p) ks′ round room rows table buckets (Now solved′) r table′ buckets′)
+              stepped-then (w .p) ks round room n rows r table₀ buckets₀ table buckets table′ buckets′ (Due w from found q solved) (Now solved″) (t .grew)
+              (subst (λ (ks′ : List ℕ). Stepped (w .p) ks′ round room rows table buckets (Now solved″) r table′ buckets′)
               (keys-stay table₀ table n old behind (t .grew .same-rows)) s)
 
           pub through-full : {Must : ℕ → Type 0} → room < r → Stepped (w .p) ks round room n table₀ buckets₀ Must r table′ buckets′
           through-full past = inr (stepped-past (w .p) ks round room n r table₀ buckets₀ table′ buckets′ Both both past)
 
-          pub through-on : from ≤ old → r ≤ room → At (q + 1) r table′ buckets′ seen′ solved′
-          through-on within-old within =
+          pub through-on : PutFor (w .S) solved′ solved″ → from ≤ old → r ≤ room → At (q + 1) r table′ buckets′ solved″
+          through-on put within-old within =
               record {
                 grew =
                     grew-must (w .p) ks round room n r table₀ buckets₀ table′ buckets′ Both _
                     (λ key. ⊎-elim (λ (row, (m, b, i, by), e). at key row m b i by e (ℕ-discrete m q)) (λ k. inr (inr k)))
                     (stepped-within (w .p) ks round room n r table₀ buckets₀ table′ buckets′ Both both within);
-                seen-passed = seen-more;
+                passed-before = λ l N few h.
+                    ⊎-elim (passed-more l N few) (λ of. absurd (let b = mask-within (passedMark + N) all of in omega (arith, l, b))) (put (passedMark + N) h);
               }
             where
               at : (key : ℕ) (row : Row ℕ) (m : ℕ) → m < q + 1 → InSet found m → SolvedBy w from m row → key ≡ keyOf (w .p) row → Dec (m ≡ q) → Both key

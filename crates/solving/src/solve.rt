@@ -13,12 +13,17 @@ use terms::walk::wide;
 ghost use mathlib.Core.Path.{_≡_};
 ghost use mathlib.Core.Logic.{_⊎_};
 ghost use Prim.Native.Nat.{ℕ, _+_, _/_, _≤_, _<_};
-ghost use lib.ListN.{length, replicate};
+ghost use lib.ListN.{length};
 ghost use Rattle.rows.specs.Rows.{masks, keysOf};
 ghost use Rattle.rows.specs.MaskSet.{setWords, InSet};
 ghost use Rattle.table.specs.RoundKeys.{Keyed};
 ghost use Rattle.steps.specs.Steps.{Writable, Stepped};
-ghost use Rattle.solving.specs.Solving.{ToShape, SolvedBy, SolvedBelow, SetKeys, ShapeSets, FoundFor, CallsAsked, ShapeAsked, SetsAsked, SolvedAt};
+ghost use Rattle.solving.specs.Solving.{ToShape, SolvedBy, SolvedBelow, SetKeys, PutFor, NoneSolved, FirstPassed, ShapeSets, FoundFor, CallsAsked, ShapeAsked, SetsAsked, SolvedAt};
+
+// The mark of variable 15, and the word of a set from which on its masks have it.
+const PASSED: u16 = 32768;
+
+const PASSED_WORDS: usize = 2048;
 
 // All call rows of one shape, from row `from` on, keep their own marks beside those that the head passes. Each union of marks gives its row once, since
 // those in the set `solved` have theirs.
@@ -37,7 +42,8 @@ fn solve_calls(
         × (length (now solved) ≡ setWords) ⌝ }
     ensures { λ r. ⌜ ((a : CallsAsked (now (table .entry)) (now (solved .entry)) (at .since) (at .rows) newest slot mask n)
         → Stepped (a .to .p) (keysOf (now (table .entry)) (at .rows)) (at .number) (at .room) n (now (table .entry)) (now (buckets .entry))
-        (λ key. Keyed (a .to .p) (SolvedBy (a .to) from (a .q)) key ⊎ SetKeys (a .to .S) slot (now (solved .exit)) key) r (now (table .exit)) (now (buckets .exit))) ⌝ }
+        (λ key. Keyed (a .to .p) (SolvedBy (a .to) from (a .q)) key ⊎ SetKeys (a .to .S) slot (now (solved .exit)) key) r (now (table .exit)) (now (buckets .exit)))
+        × ((a : CallsAsked (now (table .entry)) (now (solved .entry)) (at .since) (at .rows) newest slot mask n) → PutFor (a .to .S) (now (solved .entry)) (now (solved .exit))) ⌝ }
 {
     let number = at.number;
     let room = at.room;
@@ -69,7 +75,19 @@ fn next_mark(found: &[u16], q: usize) -> usize
     q + 1
 }
 
-// The marks on the head that the set `found` has, to one shape. Marks that pass the same go to its call rows once: what was passed is in the set `seen`.
+// Whether marks that the head passes to a shape are passed for the first time. The set `solved` has, beside unions of marks, the marks that were passed,
+// each with the mark of variable 15, which a shape of fewer variables has not; a shape of sixteen has its marks looked at each time.
+fn first_passed(solved: &mut [u16], here: u16, mask: u16) -> bool
+    requires { ⌜ (length (now solved) ≡ setWords) ⌝ }
+    ensures { λ r. ⌜ FirstPassed (now (solved .entry)) (now (solved .exit)) here mask r ⌝ }
+{
+    if here < PASSED {
+        return insert(solved, PASSED | mask);
+    }
+    true
+}
+
+// The marks on the head that the set `found` has, to one shape. Marks that pass the same go to its call rows once.
 fn solve_marks(
     table: &mut [u16],
     buckets: &mut [u16],
@@ -83,13 +101,11 @@ fn solve_marks(
     found: &[u16],
     marks: usize,
     from: usize,
-    seen: &mut [u16],
     solved: &mut [u16],
 ) -> usize
     requires { ⌜ ShapeAsked (now table) (now sets) (now found) (at .since) from (at .rows) newest slot here there marks × Writable (now table) (now buckets) n (at .room) × (at .rows ≤ n)
-        × (now seen ≡ replicate setWords 0) × (length (now solved) ≡ setWords) × ((N : ℕ) → N ≤ here → InSet (now solved) N → ⊥) ⌝ }
-    ensures { λ r. ⌜ ((N : ℕ) → InSet (now (seen .exit)) N → N ≤ here)
-        × ((w : ToShape (now (table .entry)) (at .since) (at .rows) newest slot) → ShapeSets (w .S) (w .c .head) (now (sets .entry)) here there → FoundFor w (now (found .entry)) marks
+        × (length (now solved) ≡ setWords) × NoneSolved (now solved) here ⌝ }
+    ensures { λ r. ⌜ ((w : ToShape (now (table .entry)) (at .since) (at .rows) newest slot) → ShapeSets (w .S) (w .c .head) (now (sets .entry)) here there → FoundFor w (now (found .entry)) marks
         → Stepped (w .p) (keysOf (now (table .entry)) (at .rows)) (at .number) (at .room) n (now (table .entry)) (now (buckets .entry))
         (Keyed (w .p) (SolvedBelow w from (now (found .entry)) marks)) r (now (table .exit)) (now (buckets .exit))) ⌝ }
 {
@@ -99,7 +115,7 @@ fn solve_marks(
     while q < marks {
         if contains(found, narrow(q)) {
             let r = passed(sets, 16, narrow(q), there, 0, here);
-            if insert(seen, r) {
+            if first_passed(solved, here, r) {
                 rows = solve_calls(table, buckets, rows, at, newest, slot, r, from, solved);
                 if room < rows {
                     return rows;
@@ -111,8 +127,7 @@ fn solve_marks(
     rows
 }
 
-// The marks on the head to one shape, with both sets empty at first, and `seen` empty again at the end: the words that can have a mask of the shape's
-// variables are cleared.
+// The marks on the head to one shape, with the set empty at first: the words that can have a mask of the shape's variables, or one that was passed, are cleared.
 fn solve_set(
     table: &mut [u16],
     buckets: &mut [u16],
@@ -126,19 +141,20 @@ fn solve_set(
     found: &[u16],
     marks: usize,
     from: usize,
-    seen: &mut [u16],
     solved: &mut [u16],
 ) -> usize
     requires { ⌜ ShapeAsked (now table) (now sets) (now found) (at .since) from (at .rows) newest slot here there marks × Writable (now table) (now buckets) n (at .room) × (at .rows ≤ n)
-        × (now seen ≡ replicate setWords 0) × (length (now solved) ≡ setWords) ⌝ }
-    ensures { λ r. ⌜ (now (seen .exit) ≡ replicate setWords 0)
-        × ((w : ToShape (now (table .entry)) (at .since) (at .rows) newest slot) → ShapeSets (w .S) (w .c .head) (now (sets .entry)) here there → FoundFor w (now (found .entry)) marks
+        × (length (now solved) ≡ setWords) ⌝ }
+    ensures { λ r. ⌜ ((w : ToShape (now (table .entry)) (at .since) (at .rows) newest slot) → ShapeSets (w .S) (w .c .head) (now (sets .entry)) here there → FoundFor w (now (found .entry)) marks
         → Stepped (w .p) (keysOf (now (table .entry)) (at .rows)) (at .number) (at .room) n (now (table .entry)) (now (buckets .entry))
         (Keyed (w .p) (SolvedBelow w from (now (found .entry)) marks)) r (now (table .exit)) (now (buckets .exit))) ⌝ }
 {
     let words = wide(here) / 16 + 1;
     clear(solved, words);
-    let rows = solve_marks(
+    if here < PASSED {
+        clear(&mut solved[PASSED_WORDS..], words);
+    }
+    solve_marks(
         table,
         buckets,
         n,
@@ -151,11 +167,8 @@ fn solve_set(
         found,
         marks,
         from,
-        seen,
         solved,
-    );
-    clear(seen, words);
-    rows
+    )
 }
 
 // Rule 3 for a shape that unifies with the head: the marks in the set `known` to its new call rows, those in the set `found` to all.
@@ -173,13 +186,11 @@ pub fn solve_shape(
     known_marks: usize,
     found: &[u16],
     marks: usize,
-    seen: &mut [u16],
     solved: &mut [u16],
 ) -> usize
     requires { ⌜ SetsAsked (now table) (now sets) (now known) (now found) (at .since) (at .rows) newest slot here there «known_marks» marks × Writable (now table) (now buckets) n (at .room) × (at .rows ≤ n)
-        × (now seen ≡ replicate setWords 0) × (length (now solved) ≡ setWords) ⌝ }
-    ensures { λ r. ⌜ (now (seen .exit) ≡ replicate setWords 0)
-        × ((a : SetsAsked (now (table .entry)) (now (sets .entry)) (now (known .entry)) (now (found .entry)) (at .since) (at .rows) newest slot here there «known_marks» marks)
+        × (length (now solved) ≡ setWords) ⌝ }
+    ensures { λ r. ⌜ ((a : SetsAsked (now (table .entry)) (now (sets .entry)) (now (known .entry)) (now (found .entry)) (at .since) (at .rows) newest slot here there «known_marks» marks)
         → Stepped (a .to .p) (keysOf (now (table .entry)) (at .rows)) (at .number) (at .room) n (now (table .entry)) (now (buckets .entry))
         (SolvedAt (a .to .p) (keysOf (now (table .entry)) (at .since)) (keysOf (now (table .entry)) (at .rows)) (a .to .k) (now (known .entry)) (now (found .entry)) (a .to .s)) r (now (table .exit)) (now (buckets .exit))) ⌝ }
 {
@@ -200,7 +211,6 @@ pub fn solve_shape(
             known,
             known_marks,
             since,
-            seen,
             solved,
         );
         if room < rows {
@@ -220,7 +230,6 @@ pub fn solve_shape(
         found,
         marks,
         0,
-        seen,
         solved,
     )
 }

@@ -7,7 +7,7 @@ use mathlib.Core.Logic.{⊎-elim}
 use lib.ListN.{length}
 use Rattle.rows.specs.MaskSet.{setWords}
 use Rattle.solving.specs.Solving.{CallsAsked}
-use Rattle.solving.proofs.SolveCalls.{Going, Turned, going-begins, going-slot, going-read, going-full, turned-there, turned-new, turned-read, going-on, going-falls, going-ends}
+use Rattle.solving.proofs.SolveCalls.{Going, Turned, going-begins, going-slot, going-read, put-more, going-full, turned-there, turned-new, turned-read, going-on, going-falls, going-ends}
 use Rattle.solving.proofs.solve.solve_calls.Statement.{statement}
 use Rattle.solving.proofs.solve.solve_calls.Tie as tie
 
@@ -60,9 +60,11 @@ same-length-3 : tie.Need-same-length-3 Inv-loop μ-loop
 same-length-3 c = c .before .before .before .before .before .before .before .before .before .before .before .insert .kept .0 ∙ c .before .before .before .before .before .before .before .before .before .before .before .before .before .before .before .before .before .loop .inv .1 ∙ sym (c .before .before .before .before .before .before .before .before .before .before .before .before .before .before .before .before .before .before .before .before .before .pre .3)
 
 returns : tie.Need-returns Inv-loop μ-loop
-returns c = λ a.
-    let l = c .before .before .before .before .before .before .before .before .before .before .before .before .before .before .before .before .before .before .before .before .before .pre .2 in
-    going-full a _ _ _ l _ _ _ _ _ (c .before .before .before .before .before .before .before .before .before .before .before .before .before .before .before .before .before .loop .inv .2 _ _ l a) (omega (arith, c .before .before .before .before .before .before .before .before .before .before .before .before .before .before .before .before .loop-test .taken)) _ _ _ _ (c .before .before .before .before .before .before .before .before .before .before .before .before .before .before .mask-at .ensures) (c .before .before .before .before .before .before .before .before .before .before .before .before .before .together .ensures) (c .before .before .before .before .before .before .before .before .before .before .before .insert .ensures) _ _ _ (c .before .before .before .before .before .add .ensures) (c .before .before .before .before .before .add .kept .0) (c .if2 .taken)
+returns c =
+    let l = c .before .before .before .before .before .before .before .before .before .before .before .before .before .before .before .before .before .before .before .before .before .pre .2 in (
+      λ a. going-full a _ _ _ l _ _ _ _ _ (c .before .before .before .before .before .before .before .before .before .before .before .before .before .before .before .before .before .loop .inv .2 _ _ l a) (omega (arith, c .before .before .before .before .before .before .before .before .before .before .before .before .before .before .before .before .loop-test .taken)) _ _ _ _ (c .before .before .before .before .before .before .before .before .before .before .before .before .before .before .mask-at .ensures) (c .before .before .before .before .before .before .before .before .before .before .before .before .before .together .ensures) (c .before .before .before .before .before .before .before .before .before .before .before .insert .ensures) _ _ _ (c .before .before .before .before .before .add .ensures) (c .before .before .before .before .before .add .kept .0) (c .if2 .taken),
+      λ a. put-more a _ _ _ l _ _ _ _ _ (c .before .before .before .before .before .before .before .before .before .before .before .before .before .before .before .before .before .loop .inv .2 _ _ l a) (omega (arith, c .before .before .before .before .before .before .before .before .before .before .before .before .before .before .before .before .loop-test .taken)) _ _ _ _ (c .before .before .before .before .before .before .before .before .before .before .before .before .before .before .mask-at .ensures) (c .before .before .before .before .before .before .before .before .before .before .before .before .before .together .ensures) (c .before .before .before .before .before .before .before .before .before .before .before .insert .ensures),
+    )
 
 -- the call row at the link has its solution row, whether it was added or not
 turned : (c : tie.Joined1 Inv-loop μ-loop) (since old : ℕ) (b : old ≤ c .before .before .before .before .before .before .before .before .before .before .before .before .before .args .n) (a : CallsAsked (c .before .before .before .before .before .before .before .before .before .before .before .before .before .args .table .now) (c .before .before .before .before .before .before .before .before .before .before .before .before .before .args .solved .now) since old (c .before .before .before .before .before .before .before .before .before .before .before .before .before .args .newest) (c .before .before .before .before .before .before .before .before .before .before .before .before .before .args .slot) (c .before .before .before .before .before .before .before .before .before .before .before .before .before .args .mask) (c .before .before .before .before .before .before .before .before .before .before .before .before .before .args .n))
@@ -106,9 +108,11 @@ same-length-6 : tie.Need-same-length-6 Inv-loop μ-loop
 same-length-6 c = c .before .loop .inv .1 ∙ sym (c .before .before .before .before .before .pre .3)
 
 returns-2 : tie.Need-returns-2 Inv-loop μ-loop
-returns-2 c = λ a.
-    let l = c .before .before .before .before .before .pre .2 in
-    going-ends a _ _ _ l _ _ _ _ _ (c .before .loop .inv .2 _ _ l a) _ (omega (arith, c .loop-test .left))
+returns-2 c =
+    let l = c .before .before .before .before .before .pre .2 in (
+      λ a. going-ends a _ _ _ l _ _ _ _ _ (c .before .loop .inv .2 _ _ l a) _ (omega (arith, c .loop-test .left)),
+      λ a. c .before .loop .inv .2 _ _ l a .put,
+    )
 
 pub solve-calls-spec : {M : Type 1} → statement M
 solve-calls-spec =
