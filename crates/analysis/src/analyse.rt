@@ -19,6 +19,9 @@ ghost use Rattle.directory.specs.Directory.{Directory};
 ghost use Rattle.table.specs.Table.{roomIn, Promise};
 ghost use Rattle.analysis.specs.Finished.{FinishAsked, InTable};
 
+// The bytes in which a fact notes what comes of its head and the shapes of calls to it: as many as the shapes of any program can take.
+const UNIFIER_BYTES: usize = 10400;
+
 // "The room in rows is the length over five, rounded down, but at most 4,096."
 fn room_in(size: usize) -> usize
     ensures { λ r. ⌜ r ≡ roomIn size ⌝ }
@@ -49,10 +52,11 @@ pub fn tabled(words: &[u16], dir: &mut [u16], table: &mut [u16]) -> Reply
 {
     let mut buckets = [0u16; 2048];
     let mut heads = [0u16; 3075];
+    let mut unifiers = [0u8; UNIFIER_BYTES];
     let mut answers = [0u16; 4096];
     let mut found = [0u16; 4096];
     let mut kept = [0u16; 2112];
-    let mut noted = [0u16; 2176];
+    let mut noted = [0u16; 1088];
     let room = room_in(table.len());
     directory(words, dir);
     let rows = rounds(
@@ -61,6 +65,7 @@ pub fn tabled(words: &[u16], dir: &mut [u16], table: &mut [u16]) -> Reply
         table,
         &mut buckets,
         &mut heads,
+        &mut unifiers,
         &mut answers,
         &mut found,
         &mut kept,

@@ -15,15 +15,14 @@ use steps::place::emit;
 use steps::unifiers::meet_noting;
 use terms::walk::wide;
 ghost use mathlib.Core.Path.{_≡_};
-ghost use Prim.Native.Nat.{_+_, _≤_};
-ghost use lib.ListN.{length, getD};
-ghost use Rattle.directory.specs.Layout.{clauseHead, clauseCells};
+ghost use Prim.Native.Nat.{_≤_};
+ghost use lib.ListN.{length};
 ghost use Rattle.rows.specs.Rows.{keysOf};
 ghost use Rattle.rows.specs.MaskSet.{setWords};
 ghost use Rattle.steps.specs.Situation.{Situation, HeadAsked};
 ghost use Rattle.steps.specs.Steps.{Writable, Stepped};
 ghost use Rattle.steps.specs.Heads.{HeadMark, Marked, Told};
-ghost use Rattle.steps.specs.Unifiers.{Notes};
+ghost use Rattle.steps.specs.Unifiers.{Notes, HeadNotes};
 ghost use Rattle.calling.specs.Calls.{OpenedBy, Emits, EmitAsked, MarkAsked, MarkShape};
 
 // The new call rows of one shape, to a clause with a body: rows for its first body atom.
@@ -98,7 +97,7 @@ fn marks_of_shape<'a>(
     cells: usize,
     there: u16,
     found: &mut [u16],
-    unifiers: &mut [u32],
+    unifiers: &mut [u8],
 ) -> bool
     requires { ⌜ MarkShape (now words) (now dir) (now table) (now heads) since s start cells there × (length (now found) ≡ setWords)
         × Notes (now words) (now dir) start cells (now unifiers) ⌝ }
@@ -131,14 +130,14 @@ pub fn mark_head<'a>(
     k: usize,
     found: &mut [u16],
     rows: usize,
-    unifiers: &mut [u32],
+    unifiers: &mut [u8],
 ) -> bool
     requires { ⌜ HeadAsked (now words) (now dir) (now table) (now heads) since rows k × (length (now found) ≡ setWords)
-        × Notes (now words) (now dir) (getD (now dir) (clauseHead + k) 0) (getD (now dir) (clauseCells + k) 0) (now unifiers) ⌝ }
+        × HeadNotes (now words) (now dir) k (now unifiers) ⌝ }
     ensures { λ r. ⌜ ((w : Situation (now (words .entry)) (now (dir .entry)) (now (table .entry)) (now (heads .entry)) since rows)
         → Marked (HeadMark (w .p) (now (table .entry)) since rows k 0) (now (found .entry)) (now (found .exit))
         × Told (HeadMark (w .p) (now (table .entry)) since rows k 0) r)
-        × Notes (now (words .entry)) (now (dir .entry)) (getD (now (dir .entry)) (clauseHead + k) 0) (getD (now (dir .entry)) (clauseCells + k) 0) (now (unifiers .exit)) ⌝ }
+        × HeadNotes (now (words .entry)) (now (dir .entry)) k (now (unifiers .exit)) ⌝ }
 {
     let start = wide(dir[CLAUSE_HEAD + k]);
     let cells = wide(dir[CLAUSE_CELLS + k]);

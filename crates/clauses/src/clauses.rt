@@ -14,6 +14,7 @@ ghost use Rattle.table.specs.NewRows.{NewIn};
 ghost use Rattle.table.specs.RoundKeys.{Keyed};
 ghost use Rattle.steps.specs.Situation.{HeadAsked};
 ghost use Rattle.steps.specs.Steps.{RowsIn, Writable, Stepped};
+ghost use Rattle.steps.specs.Unifiers.{Room};
 ghost use Rattle.ends.specs.Ends.{Scratch};
 ghost use Rattle.clauses.specs.Clauses.{MiddlesAsked, PastPlaces};
 ghost use Rattle.ends.specs.Keeping.{Keeps};
@@ -74,6 +75,7 @@ pub fn clause<'a>(
     table: &mut [u16],
     buckets: &mut [u16],
     heads: &[u16],
+    unifiers: &mut [u8],
     answers: &mut [u16],
     found: &mut [u16],
     kept: &mut [u16],
@@ -84,7 +86,7 @@ pub fn clause<'a>(
 ) -> usize
     requires { ⌜ HeadAsked (now words) (now dir) (now table) (now heads) (at .since) (at .rows) k × Writable (now table) (now buckets) n (at .room) × (at .rows ≤ n)
         × Scratch (now answers) (now found) × Keeps (now words) (now dir) (now table) (now kept) (at .rows) n
-        × KeepsAnswers (now words) (now dir) (now table) (now noted) (at .rows) ⌝ }
+        × KeepsAnswers (now words) (now dir) (now table) (now noted) (at .rows) × Room (now unifiers) ⌝ }
     ensures { λ r. ⌜ Scratch (now (answers .exit)) (now (found .exit))
         × ((w : HeadAsked (now (words .entry)) (now (dir .entry)) (now (table .entry)) (now (heads .entry)) (at .since) (at .rows) k)
         → Stepped (w .situation .p) (keysOf (now (table .entry)) (at .rows)) (at .number) (at .room) n (now (table .entry)) (now (buckets .entry))
@@ -121,6 +123,7 @@ pub fn clause<'a>(
         table,
         buckets,
         heads,
+        unifiers,
         answers,
         found,
         kept,

@@ -16,7 +16,8 @@ ghost use Rattle.directory.specs.Layout.{clauseVars};
 ghost use Rattle.rows.specs.Rows.{keysOf};
 ghost use Rattle.steps.specs.Situation.{HeadAsked};
 ghost use Rattle.steps.specs.Steps.{Writable, Stepped};
-ghost use Rattle.ends.specs.Ends.{WithHead, Scratch, HeadNotes};
+ghost use Rattle.steps.specs.Unifiers.{HeadNotes};
+ghost use Rattle.ends.specs.Ends.{WithHead, Scratch};
 ghost use Rattle.ends.specs.Keeping.{keptVars, Keeps};
 ghost use Rattle.joining.specs.KeptAnswers.{KeepsAnswers};
 
@@ -31,7 +32,7 @@ pub fn end_kept<'a>(
     found: &mut [u16],
     kept: &mut [u16],
     noted: &mut [u16],
-    unifiers: &mut [u32],
+    unifiers: &mut [u8],
     n: usize,
     at: Round,
     k: usize,

@@ -11,7 +11,8 @@ ghost use Prim.Native.Nat.{_≤_};
 ghost use Rattle.rows.specs.Rows.{keysOf};
 ghost use Rattle.steps.specs.Situation.{HeadAsked};
 ghost use Rattle.steps.specs.Steps.{Writable, Stepped};
-ghost use Rattle.ends.specs.Ends.{WithHead, Scratch, HeadNotes};
+ghost use Rattle.steps.specs.Unifiers.{HeadNotes};
+ghost use Rattle.ends.specs.Ends.{WithHead, Scratch};
 ghost use Rattle.joining.specs.KeptAnswers.{KeepsAnswers};
 
 // A clause whose marks are not kept: where a call row is new, all marks are collected, else the new ones; they go to all call rows.
@@ -24,7 +25,7 @@ pub fn end_wide<'a>(
     answers: &mut [u16],
     found: &mut [u16],
     noted: &mut [u16],
-    unifiers: &mut [u32],
+    unifiers: &mut [u8],
     n: usize,
     at: Round,
     k: usize,

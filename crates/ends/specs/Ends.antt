@@ -1,17 +1,15 @@
 -- What a clause gives with its head and ends in, and the scratch that it is lent.
-use Prim.Native.Nat.{ℕ, _+_}
+use Prim.Native.Nat.{ℕ}
 use mathlib.Core.Path.{_≡_}
 use mathlib.Core.Logic.{_⊎_}
 use mathlib.Core.List.{List}
-use lib.ListN.{length, getD, replicate}
+use lib.ListN.{length, replicate}
 use Rattle.marks.specs.Modes.{modes}
 use Rattle.program.specs.Program.{Program}
-use Rattle.directory.specs.Layout.{clauseHead, clauseCells}
 use Rattle.rows.specs.MaskSet.{setWords}
 use Rattle.table.specs.NewRows.{NewGoesOn, NewEnds, LateCalls}
 use Rattle.table.specs.RoundKeys.{Keyed}
 use Rattle.steps.specs.Steps.{RowsIn}
-use Rattle.steps.specs.Unifiers.{Notes}
 
 -- what clause k ends in
 abbrev pub AtEnd : Program → List ℕ → List ℕ → ℕ → ℕ → Type 0
@@ -25,7 +23,3 @@ WithHead p ks₀ ks k key = Keyed p (NewGoesOn modes p (RowsIn p ks₀) (RowsIn 
 pub record Scratch (answers found : List ℕ) : Type 0 where
   pub all-answers : length answers ≡ 4096
   pub none-found : found ≡ replicate setWords 0
-
--- the notes are of shapes and the head of clause k
-abbrev pub HeadNotes : List ℕ → List ℕ → ℕ → List ℕ → Type 0
-HeadNotes words dir k = Notes words dir (getD dir (clauseHead + k) 0) (getD dir (clauseCells + k) 0)

@@ -10,11 +10,11 @@ ghost use lib.ListN.{length, replicate};
 ghost use Rattle.rows.specs.MaskSet.{setWords};
 ghost use Rattle.steps.specs.Situation.{HeadAsked};
 ghost use Rattle.steps.specs.Heads.{HeadMark, Marked, Told};
+ghost use Rattle.steps.specs.Unifiers.{HeadNotes};
 ghost use Rattle.joining.specs.KeptAnswers.{KeepsAnswers};
-ghost use Rattle.ends.specs.Ends.{HeadNotes};
 
-// Marks on the head of clause k that result from rows since `since`, into the set, which is empty at first. Says whether there can be any. A clause without a body notes what comes
-// of shapes and its head.
+// Marks on the head of clause k that result from rows since `since`, into the set, which is empty at first. Says whether there can be any. A clause without
+// a body notes what comes of shapes and its head.
 pub fn head_marks<'a>(
     words: &'a [u16],
     dir: &'a [u16],
@@ -26,9 +26,10 @@ pub fn head_marks<'a>(
     k: usize,
     found: &mut [u16],
     noted: &mut [u16],
-    unifiers: &mut [u32],
+    unifiers: &mut [u8],
 ) -> bool
-    requires { ⌜ HeadAsked (now words) (now dir) (now table) (now heads) since before k × (now found ≡ replicate setWords 0) × (length (now answers) ≡ 4096) × KeepsAnswers (now words) (now dir) (now table) (now noted) before
+    requires { ⌜ HeadAsked (now words) (now dir) (now table) (now heads) since before k × (now found ≡ replicate setWords 0)
+        × (length (now answers) ≡ 4096) × KeepsAnswers (now words) (now dir) (now table) (now noted) before
         × HeadNotes (now words) (now dir) k (now unifiers) ⌝ }
     ensures { λ r. ⌜ KeepsAnswers (now (words .entry)) (now (dir .entry)) (now (table .entry)) (now (noted .exit)) before
         × ((w : HeadAsked (now (words .entry)) (now (dir .entry)) (now (table .entry)) (now (heads .entry)) since before k)

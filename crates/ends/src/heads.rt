@@ -20,14 +20,13 @@ use terms::walk::narrow;
 use terms::walk::wide;
 ghost use mathlib.Core.Path.{_≡_};
 ghost use Prim.Native.Nat.{_+_, _≤_, _<_};
-ghost use lib.ListN.{length, getD, replicate};
+ghost use lib.ListN.{length, getD};
 ghost use Rattle.directory.specs.Layout.{clauseHead, clauseCells};
 ghost use Rattle.rows.specs.Rows.{keysOf};
 ghost use Rattle.rows.specs.MaskSet.{setWords};
 ghost use Rattle.steps.specs.Steps.{Writable, Stepped};
-ghost use Rattle.steps.specs.Unifiers.{Notes};
+ghost use Rattle.steps.specs.Unifiers.{Notes, HeadNotes};
 ghost use Rattle.ends.specs.AtHead.{ClauseAsked, HeadKnown, AtShape, OfShape, ShapeGives, AtHead, HeadGives};
-ghost use Rattle.ends.specs.Ends.{HeadNotes};
 
 // Where the head of a clause stands, its variables, the clause's body atoms first..end, and how many variables the first has.
 struct Head {
@@ -169,7 +168,7 @@ fn of_shape<'a>(
     known_marks: usize,
     found: &[u16],
     marks: usize,
-    unifiers: &mut [u32],
+    unifiers: &mut [u8],
 ) -> usize
     requires { ⌜ OfShape (now words) (now dir) (now order) (now table) (now heads) (now known) (now found) (head .start) (head .cells) (head .there) (head .first) (head .end) (head .count) (at .since) (at .rows) s «from» «known_marks» marks
         × Writable (now table) (now buckets) n (at .room) × (at .rows ≤ n) × (length (now solved) ≡ setWords)
@@ -222,7 +221,7 @@ pub fn at_head<'a>(
     known_marks: usize,
     found: &[u16],
     marks: usize,
-    unifiers: &mut [u32],
+    unifiers: &mut [u8],
 ) -> usize
     requires { ⌜ AtHead (now words) (now dir) (now table) (now heads) (now known) (now found) (at .since) (at .rows) k «known_marks» marks
         × Writable (now table) (now buckets) n (at .room) × (at .rows ≤ n) × (length (now solved) ≡ setWords)

@@ -1,5 +1,5 @@
 -- The answers to body atoms that are kept between rounds, in lent words: a set of masks for each atom, in the atom's own numbering.
-use Prim.Native.Nat.{ℕ, _+_, _*_, _^_, _≤_, _<_}
+use Prim.Native.Nat.{ℕ, _+_, _*_, _≤_, _<_}
 use mathlib.Core.Path.{_≡_}
 use mathlib.Core.Logic.{_⊎_, _↔_}
 use mathlib.Core.List.{List, List·Memᴰ}
@@ -15,7 +15,7 @@ use Rattle.joining.specs.Answers.{Listing, Answer}
 
 -- answers to so many body atoms are kept
 abbrev pub answerAtoms : ℕ
-answerAtoms = 128
+answerAtoms = 64
 
 -- to those of at most so many variables, and so many masks these have
 abbrev pub answerVars : ℕ

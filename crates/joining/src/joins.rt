@@ -14,8 +14,7 @@ use steps::place::Round;
 use steps::place::emit;
 use terms::walk::wide;
 ghost use mathlib.Core.Path.{_≡_};
-ghost use mathlib.Core.List.{List};
-ghost use Prim.Native.Nat.{ℕ, suc, _+_, _*_, _≤_, _<_};
+ghost use Prim.Native.Nat.{ℕ, suc, _+_, _≤_, _<_};
 ghost use lib.ListN.{length, replicate};
 ghost use Rattle.marks.specs.Modes.{modes};
 ghost use Rattle.rows.specs.Rows.{keysOf};
@@ -246,7 +245,8 @@ pub fn last_place<'a>(
     there: u16,
     found: &mut [u16],
 ) -> bool
-    requires { ⌜ LastAsked (now words) (now dir) (now table) (now heads) since before j there × (now found ≡ replicate setWords 0) × (length (now answers) ≡ 4096) × KeepsAnswers (now words) (now dir) (now table) (now noted) before ⌝ }
+    requires { ⌜ LastAsked (now words) (now dir) (now table) (now heads) since before j there × (now found ≡ replicate setWords 0)
+        × (length (now answers) ≡ 4096) × KeepsAnswers (now words) (now dir) (now table) (now noted) before ⌝ }
     ensures { λ r. ⌜ KeepsAnswers (now (words .entry)) (now (dir .entry)) (now (table .entry)) (now (noted .exit)) before
         × ((w : Situation (now (words .entry)) (now (dir .entry)) (now (table .entry)) (now (heads .entry)) since before) (b : BodyOf (w .p) j)
         → Marked (HeadMark (w .p) (now (table .entry)) since before (b .k) (suc (b .i))) (now (found .entry)) (now (found .exit))

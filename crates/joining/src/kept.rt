@@ -10,7 +10,7 @@ ghost use Prim.Native.Nat.{_^_};
 ghost use Rattle.joining.specs.Answers.{Found};
 ghost use Rattle.joining.specs.KeptAnswers.{Gained, Ordered, Recalled, NoteAsked, RecallAsked};
 
-pub const ANSWER_ATOMS: usize = 128;
+pub const ANSWER_ATOMS: usize = 64;
 
 pub const ANSWER_VARS: usize = 8;
 

@@ -16,17 +16,19 @@ use Rattle.table.specs.Keys.{rowOf}
 use Rattle.table.specs.RoundKeys.{RoundKeys}
 use Rattle.steps.specs.Situation.{Setting, HeadAsked}
 use Rattle.steps.specs.Steps.{RowsIn}
+use Rattle.steps.specs.Unifiers.{Room}
 use Rattle.concerns.specs.Active.{Concerns}
 use Rattle.ends.specs.Ends.{Scratch}
 use Rattle.joining.specs.KeptAnswers.{answerWords}
 use Rattle.ends.specs.Keeping.{keptWords}
 
 -- "Round 0 has one row, the goal's call": nothing is there before it
-pub record RoundsAsked (words dir table buckets heads answers found kept noted : List ℕ) (room : ℕ) : Type 0 where
+pub record RoundsAsked (words dir table buckets heads unifiers answers found kept noted : List ℕ) (room : ℕ) : Type 0 where
   pub p : Program
   pub setting : Setting words dir p
   pub no-buckets : buckets ≡ replicate bucketCount 0
   pub no-heads : heads ≡ replicate slots 0
+  pub room-for-notes : Room unifiers
   pub scratch : Scratch answers found
   pub none-kept : kept ≡ replicate keptWords 0
   pub none-noted : noted ≡ replicate answerWords 0

@@ -17,6 +17,7 @@ ghost use Rattle.table.specs.NewRows.{NewIn, NewGives};
 ghost use Rattle.table.specs.RoundKeys.{Keyed};
 ghost use Rattle.steps.specs.Situation.{Setting, Situation, HeadAsked};
 ghost use Rattle.steps.specs.Steps.{RowsIn, Writable, Stepped};
+ghost use Rattle.steps.specs.Unifiers.{Room};
 ghost use Rattle.ends.specs.Ends.{Scratch};
 ghost use Rattle.ends.specs.Keeping.{Keeps};
 ghost use Rattle.joining.specs.KeptAnswers.{KeepsAnswers};
@@ -30,6 +31,7 @@ fn look<'a>(
     table: &mut [u16],
     buckets: &mut [u16],
     heads: &[u16],
+    unifiers: &mut [u8],
     answers: &mut [u16],
     found: &mut [u16],
     kept: &mut [u16],
@@ -41,7 +43,7 @@ fn look<'a>(
 ) -> usize
     requires { ⌜ LookAsked (now words) (now dir) (now table) (now heads) (at .since) (at .rows) k concerns × Writable (now table) (now buckets) n (at .room) × (at .rows ≤ n)
         × Scratch (now answers) (now found) × Keeps (now words) (now dir) (now table) (now kept) (at .rows) n
-        × KeepsAnswers (now words) (now dir) (now table) (now noted) (at .rows) ⌝ }
+        × KeepsAnswers (now words) (now dir) (now table) (now noted) (at .rows) × Room (now unifiers) ⌝ }
     ensures { λ r. ⌜ Scratch (now (answers .exit)) (now (found .exit))
         × ((w : HeadAsked (now (words .entry)) (now (dir .entry)) (now (table .entry)) (now (heads .entry)) (at .since) (at .rows) k)
         → Stepped (w .situation .p) (keysOf (now (table .entry)) (at .rows)) (at .number) (at .room) n (now (table .entry)) (now (buckets .entry))
@@ -56,6 +58,7 @@ fn look<'a>(
             table,
             buckets,
             heads,
+            unifiers,
             answers,
             found,
             kept,
@@ -75,6 +78,7 @@ fn round<'a>(
     table: &mut [u16],
     buckets: &mut [u16],
     heads: &[u16],
+    unifiers: &mut [u8],
     answers: &mut [u16],
     found: &mut [u16],
     kept: &mut [u16],
@@ -85,7 +89,7 @@ fn round<'a>(
 ) -> usize
     requires { ⌜ RoundAsked (now words) (now dir) (now table) (now heads) (now headed) (now bodied) (at .since) (at .rows) × Writable (now table) (now buckets) (at .rows) (at .room)
         × Scratch (now answers) (now found) × Keeps (now words) (now dir) (now table) (now kept) (at .rows) (at .rows)
-        × KeepsAnswers (now words) (now dir) (now table) (now noted) (at .rows) ⌝ }
+        × KeepsAnswers (now words) (now dir) (now table) (now noted) (at .rows) × Room (now unifiers) ⌝ }
     ensures { λ r. ⌜ Scratch (now (answers .exit)) (now (found .exit))
         × ((w : Situation (now (words .entry)) (now (dir .entry)) (now (table .entry)) (now (heads .entry)) (at .since) (at .rows))
         → Stepped (w .p) (keysOf (now (table .entry)) (at .rows)) (at .number) (at .room) (at .rows) (now (table .entry)) (now (buckets .entry))
@@ -105,6 +109,7 @@ fn round<'a>(
             table,
             buckets,
             heads,
+            unifiers,
             answers,
             found,
             kept,
@@ -129,13 +134,14 @@ pub fn rounds<'a>(
     table: &mut [u16],
     buckets: &mut [u16],
     heads: &mut [u16],
+    unifiers: &mut [u8],
     answers: &mut [u16],
     found: &mut [u16],
     kept: &mut [u16],
     noted: &mut [u16],
     room: usize,
 ) -> usize
-    requires { ⌜ RoundsAsked (now words) (now dir) (now table) (now buckets) (now heads) (now answers) (now found) (now kept) (now noted) room ⌝ }
+    requires { ⌜ RoundsAsked (now words) (now dir) (now table) (now buckets) (now heads) (now unifiers) (now answers) (now found) (now kept) (now noted) room ⌝ }
     ensures { λ r. ⌜ ((p : Program) → Setting (now (words .entry)) (now (dir .entry)) p → Finished p room r (now (table .exit))) ⌝ }
 {
     let mut headed = [0u64; 64];
@@ -162,6 +168,7 @@ pub fn rounds<'a>(
             table,
             buckets,
             heads,
+            unifiers,
             answers,
             found,
             kept,

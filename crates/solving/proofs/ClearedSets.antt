@@ -10,7 +10,7 @@ use borrow.Rule.Slice.PartMut.{putMid, midOf, postOf}
 use Rattle.terms.specs.Mask.{Has}
 use Rattle.rows.specs.MaskSet.{setWords, InSet}
 use Rattle.rows.proofs.MaskSets.{none-in-cleared}
-use Rattle.solving.specs.Solving.{passedMark, NoneSolved}
+use Rattle.solving.specs.SolvedSets.{passedMark, NoneSolved}
 
 -- the word of a set from which on its masks have the mark of variable 15
 abbrev pub passedWords : ℕ

@@ -24,7 +24,8 @@ use Rattle.table.specs.Keys.{keyOf}
 use Rattle.table.specs.RoundKeys.{Keyed}
 use Rattle.table.proofs.Added.{behind-keeps}
 use Rattle.steps.specs.Steps.{RowsIn, Given, Writable, Grew, Stepped}
-use Rattle.solving.specs.Solving.{ToShape, SolvedBy, SetKeys, PutFor, CallsAsked}
+use Rattle.solving.specs.Solving.{ToShape, SolvedBy, SetKeys, CallsAsked}
+use Rattle.solving.specs.SolvedSets.{PutFor}
 use Rattle.steps.proofs.Stepping.{grew-none, grew-must, stepped-then, stepped-within, stepped-past, added-stepped}
 use Rattle.steps.proofs.SlotRows.{in-slot}
 use Rattle.solving.proofs.SolveLaws.{late-row, to-shape-below, call-there, solution-key, passes-own, both-variables, solution-given}

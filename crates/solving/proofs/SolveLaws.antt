@@ -29,7 +29,8 @@ use Rattle.table.proofs.NewRows.{new-reached}
 use Rattle.steps.specs.Steps.{RowsIn, Given}
 use Rattle.steps.specs.Situation.{Chains}
 use Rattle.steps.specs.Heads.{HeadMark}
-use Rattle.solving.specs.Solving.{ToShape, PassesTo, SolvedBy, passedMark}
+use Rattle.solving.specs.Solving.{ToShape, PassesTo, SolvedBy}
+use Rattle.solving.specs.SolvedSets.{passedMark}
 use Rattle.steps.proofs.SlotRows.{at-slot, in-slot}
 use Rattle.steps.proofs.ShapeLinks.{shape-below}
 

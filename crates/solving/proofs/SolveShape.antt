@@ -25,7 +25,8 @@ use Rattle.table.specs.NewRows.{NewReached}
 use Rattle.table.specs.RoundKeys.{Keyed}
 use Rattle.steps.specs.Steps.{RowsIn, Writable, Grew, Stepped}
 use Rattle.steps.specs.Heads.{HeadMark, FoundOn}
-use Rattle.solving.specs.Solving.{ToShape, PassesTo, SolvedBy, SolvedBelow, SetKeys, PutFor, passedMark, NoneSolved, FirstPassed, CallsAsked, ShapeSets, FoundFor}
+use Rattle.solving.specs.Solving.{ToShape, PassesTo, SolvedBy, SolvedBelow, SetKeys, CallsAsked, ShapeSets, FoundFor}
+use Rattle.solving.specs.SolvedSets.{PutFor, passedMark, NoneSolved, FirstPassed}
 use Rattle.steps.proofs.Stepping.{keys-stay, grew-none, grew-must, stepped-then, stepped-within, stepped-past}
 use Rattle.steps.proofs.SlotRows.{chains-stay}
 use Rattle.solving.proofs.SolveLaws.{mask-within, passes-variables, solved-alike}

@@ -1,7 +1,6 @@
 -- Rule 3, a shape and a call row at a time: what is asked of the steps, and what they must add.
 use Prim.Native.Nat.{ℕ, _+_, _≤_, _<_}
 use mathlib.Core.Path.{_≡_}
-use mathlib.Core.Bool.{Bool, true}
 use mathlib.Core.Logic.{_⊎_}
 use mathlib.Core.List.{List, [], List·Memᴰ}
 use lib.ListN.{length, getD}
@@ -13,7 +12,7 @@ use Rattle.marks.specs.Passing.{VariablesOf}
 use Rattle.program.specs.Program.{Nth, Clause, Program}
 use Rattle.program.specs.Shapes.{shapes}
 use Rattle.rows.specs.Rows.{keysOf, keyOf}
-use Rattle.rows.specs.MaskSet.{InSet, Inserted}
+use Rattle.rows.specs.MaskSet.{InSet}
 use Rattle.table.specs.Rules.{Row, call, solution}
 use Rattle.table.specs.NewRows.{New}
 use Rattle.table.specs.Keys.{firstSolution}
@@ -69,23 +68,6 @@ SolvedBelow w from found marks row = (q : ℕ) × (q < marks) × InSet found q �
 -- the keys of a slot's rows whose masks are in the set, and of the variables of S alone
 abbrev pub SetKeys : Term → ℕ → List ℕ → ℕ → Type 0
 SetKeys S slot set key = (N : ℕ) × ((v : ℕ) → Has N v → Occ v S) × InSet set N × (key ≡ keyOf slot N)
-
--- "which keeps the call's own marks": the masks that join the set are unions of a call's own marks and those that pass, of the variables of S alone
-abbrev pub PutFor : Term → List ℕ → List ℕ → Type 0
-PutFor S set set′ = (N : ℕ) → InSet set′ N → InSet set N ⊎ ((v : ℕ) → Has N v → Occ v S)
-
--- the mark of variable 15, with which the set has marks that were passed to a shape of fewer variables
-abbrev pub passedMark : ℕ
-passedMark = 32768
-
--- nothing is in the set of the masks of the shape's variables, nor of the marks that were passed to it
-abbrev pub NoneSolved : List ℕ → ℕ → Type 0
-NoneSolved solved here = (N : ℕ) → N ≤ here → (InSet solved N → ⊥) × (here < passedMark → InSet solved (passedMark + N) → ⊥)
-
--- whether marks pass to a shape for the first time; where it has sixteen variables that is not asked
-pub record FirstPassed (solved solved′ : List ℕ) (here mask : ℕ) (first : Bool) : Type 0 where
-  pub asked : here < passedMark → mask < passedMark → Inserted solved solved′ (passedMark + mask) first
-  pub not-asked : passedMark ≤ here → (first ≡ true) × (solved′ ≡ solved)
 
 -- what is asked before the call rows of a shape are gone through: the solution rows of the masks in the set are among the first n
 pub record CallsAsked (table solved : List ℕ) (since rows newest slot mask n : ℕ) : Type 0 where

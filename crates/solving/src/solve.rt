@@ -18,7 +18,8 @@ ghost use Rattle.rows.specs.Rows.{masks, keysOf};
 ghost use Rattle.rows.specs.MaskSet.{setWords, InSet};
 ghost use Rattle.table.specs.RoundKeys.{Keyed};
 ghost use Rattle.steps.specs.Steps.{Writable, Stepped};
-ghost use Rattle.solving.specs.Solving.{ToShape, SolvedBy, SolvedBelow, SetKeys, PutFor, NoneSolved, FirstPassed, ShapeSets, FoundFor, CallsAsked, ShapeAsked, SetsAsked, SolvedAt};
+ghost use Rattle.solving.specs.Solving.{ToShape, SolvedBy, SolvedBelow, SetKeys, ShapeSets, FoundFor, CallsAsked, ShapeAsked, SetsAsked, SolvedAt};
+ghost use Rattle.solving.specs.SolvedSets.{PutFor, NoneSolved, FirstPassed};
 
 // The mark of variable 15, and the word of a set from which on its masks have it.
 const PASSED: u16 = 32768;

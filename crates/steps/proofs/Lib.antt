@@ -1,4 +1,5 @@
 -- The laws of the meeting of two atoms, of unifiers that are noted, and of rows that a step adds.
+
 pub mod Stepping
 pub mod SlotRows
 pub mod ShapeAtoms
@@ -10,5 +11,6 @@ pub mod Emitting
 pub mod BodyAtoms
 pub mod ShapeLinks
 pub mod MarkedSets
-pub mod CodedSets
+pub mod NoteWords
+pub mod CodedPlaces
 pub mod NotedUnifiers

@@ -1,22 +1,23 @@
 -- A shape and an atom of the words: their cells stand in the directory and in the words, and are atoms; where they unify, they have one predicate.
-use Prim.Native.Nat.{ℕ, suc, _+_, _-_, _≤_, _<_}
+use Prim.Native.Nat.{ℕ, suc, _+_, _-_, _<_}
 use native.Mathlib.Omega.{arith}
-use mathlib.Core.Path.{_≡_, sym, ap}
+use mathlib.Core.Path.{_≡_, sym, ap, _∙_}
 use mathlib.Core.Bool.{Bool, true, false}
 use mathlib.Core.List.{List}
-use lib.ListN.{length, getD, take, drop}
+use lib.ListN.{getD}
 use Rattle.terms.specs.Term.{Term, Subst, app, sub}
 use Rattle.terms.specs.Cells.{variables, pick, enc, Atom}
 use Rattle.terms.specs.Unifier.{Apart}
-use Rattle.terms.specs.Unified.{Unified, Unification, BothAtoms}
+use Rattle.terms.specs.Unified.{Unified, Bindings, StoreOf, Unification, BothAtoms}
 use Rattle.program.specs.Program.{Program}
 use Rattle.program.specs.Shapes.{shapes}
 use Rattle.program.specs.Within.{WithinLimits}
 use Rattle.program.proofs.ProgramWords.{sound-within}
 use Rattle.program.proofs.Nths.{nth-below}
-use Rattle.directory.specs.Layout.{functionsStart, clausesStart, predicatesStart, shapeStart, shapeCells, maxShapes, dirWords}
+use Rattle.directory.specs.Layout.{functionsStart, predicatesStart, shapeStart, shapeCells, maxShapes}
 use Rattle.directory.specs.Directory.{ShapeAt, predicateOf}
-use Rattle.steps.specs.Situation.{Setting, Meeting, Met}
+use Rattle.steps.specs.Parts.{between, shapeRun, ShapeIn, functionsRun, FunctionsIn}
+use Rattle.steps.specs.Situation.{Setting, Meeting, Unifying, Met, MetStore, MetBindings}
 use Rattle.steps.proofs.ShapeAtoms.{shape-is-atom}
 
 pub setting-within : {words dir : List ℕ} {p : Program} → Setting words dir p → WithinLimits p
@@ -29,9 +30,13 @@ one-predicate {A = A} {B = B} α β a b e =
     let g : a .predicate ≡ b .predicate = ap predicateOf f in
     rw (a .is, b .is) (sym g)
 
--- the part of a list between two places
-abbrev pub between : List ℕ → ℕ → ℕ → List ℕ
-between l from to = take (to - from) (drop from l)
+-- what a store is of, its sets are those of
+pub store-sets : {functions a b : List ℕ} {S A : Term} {places sets : List ℕ} → Unified functions a b S A places sets → Unifying S A sets
+store-sets u = record { α = u .σ; β = λ v. u .σ (variables + v); most-general = u .most-general; sets-right = u .sets-right }
+
+pub store-met : (functions : List ℕ) (S A : Term) (r : Bool) (places sets : List ℕ) → MetStore functions S A r places sets → Met S A r sets
+store-met functions S A true places sets u = store-sets u
+store-met functions S A false places sets u = u
 
 module _ {words dir : List ℕ} {shape start cells : ℕ} (m : Meeting words dir shape start cells) where
   pub shape-at : ShapeAt (shapes (m .p)) dir (m .S) shape
@@ -40,54 +45,82 @@ module _ {words dir : List ℕ} {shape start cells : ℕ} (m : Meeting words dir
   pub shape-few : shape < maxShapes
   shape-few = let d = m .setting .directory in omega (arith, nth-below (m .nth-shape), d .shape-count, d .shapes-most)
 
-  -- the shape's cells are in the directory
-  pub shape-part : (dirWords ≡ length dir) × (getD dir (shapeStart + shape) 0 ≤ getD dir (shapeStart + shape + 1) 0) × (shapeCells + getD dir (shapeStart + shape + 1) 0 ≤ length dir)
-  shape-part =
+  -- the shape's cells are in the directory, and the functions' arities in the words
+  pub shape-in : ShapeIn dir shape
+  shape-in =
       let e : shapeStart + shape + 1 ≡ shapeStart + suc shape = omega arith in
-      let size = sym (m .setting .directory .size) in
-      rw e (size, shape-at .ordered, omega (arith, shape-at .cells-most))
+      record {
+        few = shape-few;
+        size = m .setting .directory .size;
+        ordered = rw e (shape-at .ordered);
+        within = rw e (omega (arith, shape-at .cells-most, m .setting .directory .size));
+      }
 
-  module _ (from to functions clauses : ℕ) (from-is : from ≡ getD dir (shapeStart + shape) 0) (to-is : to ≡ getD dir (shapeStart + shape + 1) 0)
-      (functions-is : functions ≡ getD dir functionsStart 0) (clauses-is : clauses ≡ getD dir clausesStart 0) where
-    shape-run : between dir (shapeCells + from) (shapeCells + to) ≡ enc (m .S)
-    shape-run =
-        let e : shapeStart + shape + 1 ≡ shapeStart + suc shape = omega arith in
-        let same : shapeCells + to - (shapeCells + from) ≡ to - from = omega arith in
-        rw (same, from-is, to-is, e) (shape-at .stands .run)
+  pub functions-in : FunctionsIn words dir
+  functions-in =
+      let d = m .setting .directory in record { size = d .size; ordered = d .functions-in .1; within = d .functions-in .2 }
 
-    atom-run : between words start (start + cells) ≡ enc (m .A)
-    atom-run = let same : start + cells - start ≡ cells = omega arith in rw same (m .stands .run)
+  shape-run : shapeRun dir shape ≡ enc (m .S)
+  shape-run =
+      let e : shapeStart + shape + 1 ≡ shapeStart + suc shape = omega arith in
+      let same : shapeCells + getD dir (shapeStart + suc shape) 0 - (shapeCells + getD dir (shapeStart + shape) 0) ≡ getD dir (shapeStart + suc shape) 0 - getD dir (shapeStart + shape) 0 = omega arith in
+      rw (e, same) (shape-at .stands .run)
 
-    shape-atom : Atom (between words predicatesStart functions) (between words functions clauses) (m .S)
-    shape-atom =
-        rw (functions-is, clauses-is, m .setting .directory .predicates-are, m .setting .directory .functions-are)
-        (shape-is-atom (m .p) (setting-within (m .setting)) (m .nth-shape))
+  atom-run : between words start (start + cells) ≡ enc (m .A)
+  atom-run = let same : start + cells - start ≡ cells = omega arith in rw same (m .stands .run)
 
-    words-atom : Atom (between words predicatesStart functions) (between words functions clauses) (m .A)
-    words-atom = rw (functions-is, clauses-is, m .setting .directory .predicates-are, m .setting .directory .functions-are) (m .atom)
+  shape-atom : Atom (m .p .predicates) (m .p .functions) (m .S)
+  shape-atom = shape-is-atom (m .p) (setting-within (m .setting)) (m .nth-shape)
 
-    pub meeting-atoms : BothAtoms (between words predicatesStart functions) (between words functions clauses)
-        (between dir (shapeCells + from) (shapeCells + to)) (between words start (start + cells))
-    meeting-atoms =
+  -- the shape's cells and the functions' arities, as they are read
+  module _ (run arities : List ℕ) (run-is : run ≡ shapeRun dir shape) (arities-is : arities ≡ functionsRun words dir) where
+    abbrev atom : List ℕ
+    atom = between words start (start + cells)
+
+    first-run : run ≡ enc (m .S)
+    first-run = run-is ∙ shape-run
+
+    arities-are : arities ≡ m .p .functions
+    arities-are = arities-is ∙ m .setting .directory .functions-are
+
+    -- what is said of the shape and the atom is said of their cells
+    pub meeting-bindings : (places : List ℕ) → MetBindings (m .p .functions) (m .S) (m .A) places → Bindings arities run atom (m .S) (m .A) places
+    meeting-bindings places u = rw (arities-are, first-run, atom-run) u
+
+    pub meeting-stored : (places : List ℕ) → MetBindings (m .p .functions) (m .S) (m .A) places → StoreOf arities run atom places
+    meeting-stored places u =
         record {
-          first = m .S;
-          first-run = shape-run;
-          first-atom = shape-atom;
-          second = m .A;
-          second-run = atom-run;
-          second-atom = words-atom;
+          A = m .S;
+          B = m .A;
+          bindings = meeting-bindings places u;
+          first-short = rw first-run (shape-atom .short);
+          second-short = rw atom-run (m .atom .short);
         }
 
-    -- what unification says of their cells it says of the shape and the atom
-    pub meeting-met : (r : Bool) (places sets : List ℕ)
-        → Unification (between words predicatesStart functions) (between words functions clauses)
-        (between dir (shapeCells + from) (shapeCells + to)) (between words start (start + cells)) r places sets
-        → Met (m .S) (m .A) r sets
-    meeting-met r places sets u = by r (u (m .S) (m .A) shape-run atom-run shape-atom words-atom)
-      where
-        by : (r : Bool)
-            → pick r (Unified (between words functions clauses) (between dir (shapeCells + from) (shapeCells + to))
-            (between words start (start + cells)) (m .S) (m .A) places sets) (Apart (m .S) (m .A))
-            → Met (m .S) (m .A) r sets
-        by true h = record { α = h .σ; β = λ v. h .σ (variables + v); most-general = h .most-general; sets-right = h .sets-right }
-        by false h = h
+    -- the predicates' arities, too
+    module _ (functions : ℕ) (functions-is : functions ≡ getD dir functionsStart 0) where
+      abbrev predicates : List ℕ
+      predicates = between words predicatesStart functions
+
+      predicates-are : predicates ≡ m .p .predicates
+      predicates-are = rw functions-is (m .setting .directory .predicates-are)
+
+      first-atom : Atom predicates arities (m .S)
+      first-atom = rw (predicates-are, arities-are) shape-atom
+
+      second-atom : Atom predicates arities (m .A)
+      second-atom = rw (predicates-are, arities-are) (m .atom)
+
+      pub meeting-atoms : BothAtoms predicates arities run atom
+      meeting-atoms =
+          record { first = m .S; first-run = first-run; first-atom = first-atom; second = m .A; second-run = atom-run; second-atom = second-atom }
+
+      -- what unification says of their cells it says of the shape and the atom
+      pub meeting-store : (r : Bool) (places sets : List ℕ) → Unification predicates arities run atom r places sets
+          → MetStore (m .p .functions) (m .S) (m .A) r places sets
+      meeting-store r places sets u = by r (u (m .S) (m .A) first-run atom-run first-atom second-atom)
+        where
+          by : (r : Bool) → pick r (Unified arities run atom (m .S) (m .A) places sets) (Apart (m .S) (m .A))
+              → MetStore (m .p .functions) (m .S) (m .A) r places sets
+          by true h = rw (arities-are, first-run, atom-run) at h
+          by false h = h

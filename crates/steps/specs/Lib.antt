@@ -1,6 +1,9 @@
 -- What a step of the analysis finds, keeps and adds.
 pub mod Steps
 pub mod Situation
+pub mod Parts
 pub mod Since
 pub mod Heads
+pub mod NoteWords
+pub mod NotedPlaces
 pub mod Unifiers

@@ -8,7 +8,7 @@ use Rattle.terms.specs.Term.{Term, Subst, Occ}
 use Rattle.terms.specs.Cells.{Atom, enc, pick}
 use Rattle.terms.specs.Mask.{Marks}
 use Rattle.terms.specs.Unifier.{Apart, MostGeneral}
-use Rattle.terms.specs.Unified.{Sets}
+use Rattle.terms.specs.Unified.{Sets, Unified, Bindings}
 use Rattle.marks.specs.Modes.{InOrder}
 use Rattle.program.specs.Program.{Nth, Clause, Program}
 use Rattle.program.specs.Shapes.{shapes, number}
@@ -59,6 +59,14 @@ pub record Unifying (S A : Term) (sets : List ℕ) : Type 0 where
 
 abbrev pub Met : Term → Term → Bool → List ℕ → Type 0
 Met S A r sets = pick r (Unifying S A sets) (Apart S A)
+
+-- the store that is left of them, with the bindings and the sets of a most general unifier
+abbrev pub MetStore : List ℕ → Term → Term → Bool → List ℕ → List ℕ → Type 0
+MetStore functions S A r places sets = pick r (Unified functions (enc S) (enc A) S A places sets) (Apart S A)
+
+-- the bindings of such a store
+abbrev pub MetBindings : List ℕ → Term → Term → List ℕ → Type 0
+MetBindings functions S A places = Bindings functions (enc S) (enc A) S A places
 
 -- the body atom j, with its variables by first appearance
 pub record Place (dir order : List ℕ) (count j : ℕ) : Type 0 where

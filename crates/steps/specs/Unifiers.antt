@@ -1,64 +1,92 @@
--- Unifiers that are noted in lent words: what came of shapes that met one atom of the words, in the order in which they met it.
-use Prim.Native.Nat.{ℕ, zero, suc, _+_, _*_, _^_, _≤_, _<_}
+-- Unifiers that are noted in lent bytes: what came of shapes that met one atom of the words, in the order in which they met it.
+use Prim.Native.Nat.{ℕ, _+_, _*_, _≤_}
 use mathlib.Core.Path.{_≡_}
 use mathlib.Core.List.{List}
 use lib.ListN.{length, getD}
-use Rattle.terms.specs.Cells.{variables}
-use Rattle.terms.specs.Mask.{markOf, Has}
 use Rattle.terms.specs.Unifier.{Apart}
-use Rattle.steps.specs.Situation.{Meeting, Unifying}
+use Rattle.directory.specs.Layout.{clauseHead, clauseCells}
+use Rattle.steps.specs.Situation.{Meeting, MetBindings}
+use Rattle.steps.specs.NoteWords.{wordAt, setAt, WordPut}
+use Rattle.steps.specs.NotedPlaces.{allVariables, countOf, Coded}
 
--- the variables of both atoms
-abbrev pub allVariables : ℕ
-allVariables = variables + variables
-
--- how many of the first x variables are in the set
-unfoldable pub countOf : ℕ → ℕ → ℕ
-countOf set zero = 0
-countOf set (suc x) = countOf set x + markOf set x
-
--- the sets of the first `upto` variables: those of the variables in `other` stand in the words from `from` on, one behind the other, and
--- every other variable stands for itself
-pub record Coded (unifiers sets : List ℕ) (other from upto : ℕ) : Type 0 where
-  pub noted : (x : ℕ) → x < upto → Has other x → getD sets x 0 ≡ getD unifiers (from + countOf other x) 0
-  pub itself : (x : ℕ) → x < upto → (Has other x → ⊥) → getD sets x 0 ≡ 2 ^ x
-
--- the notes in the words from one place to another. Shape s that is apart from the atom: the word 2s. One that unifies with it: the word
--- 2s + 1, the set of the variables that do not stand for themselves alone, and their sets.
+-- the notes in the bytes from one place to another. Shape s that is apart from the atom: the word 2s. One that unifies with it: the word
+-- 2s + 1, the set of the variables that are bound, and their places.
 pub data NotesIn (words dir : List ℕ) (start cells : ℕ) (unifiers : List ℕ) : ℕ → ℕ → Type 0 where
   none : {to : ℕ} → NotesIn words dir start cells unifiers to to
-  apart : {from to : ℕ} (s : ℕ) → getD unifiers from 0 ≡ 2 * s
+  apart : {from to : ℕ} (s : ℕ) → wordAt unifiers from ≡ 2 * s
       → ((m : Meeting words dir s start cells) → Apart (m .S) (m .A))
-      → NotesIn words dir start cells unifiers (from + 1) to → NotesIn words dir start cells unifiers from to
-  unified : {from to : ℕ} (s : ℕ) (sets : List ℕ) → getD unifiers from 0 ≡ 2 * s + 1
-      → ((m : Meeting words dir s start cells) → Unifying (m .S) (m .A) sets)
-      → Coded unifiers sets (getD unifiers (from + 1) 0) (from + 2) allVariables
-      → NotesIn words dir start cells unifiers (from + 2 + countOf (getD unifiers (from + 1) 0) allVariables) to
+      → NotesIn words dir start cells unifiers (from + 2) to → NotesIn words dir start cells unifiers from to
+  unified : {from to : ℕ} (s : ℕ) (places : List ℕ) → wordAt unifiers from ≡ 2 * s + 1
+      → ((m : Meeting words dir s start cells) → MetBindings (m .p .functions) (m .S) (m .A) places)
+      → Coded unifiers places (setAt unifiers (from + 2)) (from + 6) allVariables
+      → NotesIn words dir start cells unifiers (from + 6 + countOf (setAt unifiers (from + 2)) allVariables) to
       → NotesIn words dir start cells unifiers from to
 
--- word 0: how many words of the notes are taken; word 1: how many words the notes have; the notes stand behind these two
-abbrev pub firstNote : ℕ
-firstNote = 2
+-- the word at byte 0: how many bytes of the notes are taken; that at byte 2: how many bytes the notes have; the notes stand behind these two
+abbrev pub takenAt : ℕ
+takenAt = 0
 
--- the notes end within the words, where these have room for any
-abbrev pub Fitting : List ℕ → Type 0
-Fitting unifiers = firstNote ≤ length unifiers → firstNote + getD unifiers 1 0 ≤ length unifiers
+abbrev pub notedAt : ℕ
+notedAt = 2
+
+abbrev pub firstNote : ℕ
+firstNote = 4
+
+-- every count of bytes is a word
+abbrev pub mostBytes : ℕ
+mostBytes = 65535
+
+-- bytes that can hold notes
+pub record Room (unifiers : List ℕ) : Type 0 where
+  pub some : firstNote ≤ length unifiers
+  pub few : length unifiers ≤ mostBytes
+
+-- the notes end within the bytes
+pub record Fitting (unifiers : List ℕ) : Type 0 where
+  pub room : Room unifiers
+  pub within : firstNote + wordAt unifiers notedAt ≤ length unifiers
+
+-- where the next note stands that is not taken yet
+abbrev pub nextAt : List ℕ → ℕ
+nextAt unifiers = firstNote + wordAt unifiers takenAt
 
 -- the notes that are not taken yet
 pub record Notes (words dir : List ℕ) (start cells : ℕ) (unifiers : List ℕ) : Type 0 where
   pub fitting : Fitting unifiers
-  pub left : NotesIn words dir start cells unifiers (firstNote + getD unifiers 0 0) (firstNote + getD unifiers 1 0)
+  pub left : NotesIn words dir start cells unifiers (nextAt unifiers) (firstNote + wordAt unifiers notedAt)
 
--- the sets are put into the words from `at` on, and end before r; where r is 0 there is no room for them. No earlier word has changed.
-pub record SetsPut (sets before after : List ℕ) (at r : ℕ) : Type 0 where
-  pub size : length after ≡ length before
-  pub earlier : (i : ℕ) → i < at → getD after i 0 ≡ getD before i 0
-  pub room : r ≤ length after
-  pub end : 0 < r → r ≡ at + 1 + countOf (getD after at 0) allVariables
-  pub coded : 0 < r → Coded after sets (getD after at 0) (at + 1) allVariables
+-- the notes of shapes that met the head of clause k
+abbrev pub HeadNotes : List ℕ → List ℕ → ℕ → List ℕ → Type 0
+HeadNotes words dir k = Notes words dir (getD dir (clauseHead + k) 0) (getD dir (clauseCells + k) 0)
+
+-- bytes that hold notes hold them still where a shape that is apart is noted, or where there is no room for it
+abbrev pub ApartNoted : ℕ → List ℕ → List ℕ → Type 0
+ApartNoted shape before after =
+    (words dir : List ℕ) (start cells : ℕ) → Notes words dir start cells before
+    → ((m : Meeting words dir shape start cells) → Apart (m .S) (m .A)) → Notes words dir start cells after
+
+-- and so where one that unifies is noted, with the bindings of the store that is left
+abbrev pub UnifiedNoted : ℕ → List ℕ → List ℕ → List ℕ → Type 0
+UnifiedNoted shape places before after =
+    (words dir : List ℕ) (start cells : ℕ) → Notes words dir start cells before
+    → ((m : Meeting words dir shape start cells) → MetBindings (m .p .functions) (m .S) (m .A) places) → Notes words dir start cells after
 
 -- r is the first word of the next note that is not taken yet
 pub record NextWord (unifiers : List ℕ) (r : ℕ) : Type 0 where
-  pub there : firstNote ≤ length unifiers
-  pub left : getD unifiers 0 0 < getD unifiers 1 0
-  pub is : r ≡ getD unifiers (firstNote + getD unifiers 0 0) 0
+  pub left : wordAt unifiers takenAt + 2 ≤ wordAt unifiers notedAt
+  pub is : r ≡ wordAt unifiers (nextAt unifiers)
+
+-- where the next note ends, if it is of a shape that unifies
+abbrev pub nextEnd : List ℕ → ℕ
+nextEnd unifiers = nextAt unifiers + 6 + countOf (setAt unifiers (nextAt unifiers + 2)) allVariables
+
+-- such a note is within the bytes
+pub record NextWithin (unifiers : List ℕ) : Type 0 where
+  pub room : Room unifiers
+  pub within : nextEnd unifiers ≤ length unifiers
+
+-- it is taken: these are its places
+pub record PlacesTaken (before after places : List ℕ) : Type 0 where
+  pub end : (e : ℕ) × (firstNote + e ≡ nextEnd before) × WordPut before after takenAt e
+  pub all-places : length places ≡ allVariables
+  pub coded : Coded before places (setAt before (nextAt before + 2)) (nextAt before + 6) allVariables

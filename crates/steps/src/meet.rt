@@ -6,20 +6,71 @@ use directory::layout::SHAPE_CELLS;
 use directory::layout::SHAPE_START;
 use marks::pass::Passed;
 use marks::pass::pass_on;
+use terms::sets::sets_of;
+use terms::unifier::NO_PLACE;
 use terms::unifier::unify;
 use terms::walk::FIRST_VARIABLE;
 use terms::walk::wide;
 ghost use mathlib.Core.Path.{_≡_};
-ghost use Prim.Native.Nat.{_+_, _-_, _^_, _≤_, _<_};
+ghost use Prim.Native.Nat.{_+_, _-_, _≤_, _<_};
 ghost use lib.ListN.{length};
 ghost use Rattle.terms.specs.Mask.{Marks};
 ghost use Rattle.terms.specs.Term.{Term};
 ghost use Rattle.marks.specs.Modes.{InOrder};
 ghost use Rattle.marks.specs.Passing.{MarkedIn};
 ghost use Rattle.program.specs.Shapes.{number};
-ghost use Rattle.steps.specs.Situation.{Meeting, Met, AnAtom, AtomRun};
+ghost use Rattle.steps.specs.Parts.{shapeRun, ShapeIn, functionsRun, FunctionsIn};
+ghost use Rattle.steps.specs.Situation.{Meeting, Unifying, Met, MetStore, MetBindings, AnAtom, AtomRun};
 
-// The shape is the first atom, the atom at so many words from the start on the second.
+// The cells of a shape, in the directory.
+fn shape_run<'a>(dir: &'a [u16], shape: usize) -> &'a [u16]
+    requires { ⌜ ShapeIn (now dir) shape ⌝ }
+    ensures { λ r. ⌜ now r ≡ shapeRun (now (dir .entry)) shape ⌝ }
+{
+    let from = SHAPE_CELLS + wide(dir[SHAPE_START + shape]);
+    let to = SHAPE_CELLS + wide(dir[SHAPE_START + shape + 1]);
+    &dir[from..to]
+}
+
+// The arities of the functions, in the words.
+fn functions_run<'a>(words: &'a [u16], dir: &[u16]) -> &'a [u16]
+    requires { ⌜ FunctionsIn (now words) (now dir) ⌝ }
+    ensures { λ r. ⌜ now r ≡ functionsRun (now (words .entry)) (now (dir .entry)) ⌝ }
+{
+    let functions = wide(dir[FUNCTIONS_START]);
+    let clauses = wide(dir[CLAUSES_START]);
+    &words[functions..clauses]
+}
+
+// The shape is the first atom, the atom at so many words from the start on the second: the whole store.
+pub fn meet_store<'a>(
+    words: &'a [u16],
+    dir: &'a [u16],
+    shape: usize,
+    start: usize,
+    cells: usize,
+    places: &mut [u8; 32],
+    sets: &mut [u32; 32],
+) -> bool
+    requires { ⌜ Meeting (now words) (now dir) shape start cells ⌝ }
+    ensures { λ r. ⌜ ((m : Meeting (now (words .entry)) (now (dir .entry)) shape start cells)
+        → MetStore (m .p .functions) (m .S) (m .A) r (now (places .exit)) (now (sets .exit))) ⌝ }
+{
+    let run = shape_run(dir, shape);
+    let arities = functions_run(words, dir);
+    let functions = wide(dir[FUNCTIONS_START]);
+    let end = start + cells;
+    unify(
+        run,
+        &words[start..end],
+        &words[PREDICATES_START..functions],
+        arities,
+        places,
+        sets,
+    )
+}
+
+// The sets alone.
 pub fn meet<'a>(
     words: &'a [u16],
     dir: &'a [u16],
@@ -31,20 +82,28 @@ pub fn meet<'a>(
     requires { ⌜ Meeting (now words) (now dir) shape start cells ⌝ }
     ensures { λ r. ⌜ ((m : Meeting (now (words .entry)) (now (dir .entry)) shape start cells) → Met (m .S) (m .A) r (now (sets .exit))) ⌝ }
 {
-    let from = SHAPE_CELLS + wide(dir[SHAPE_START + shape]);
-    let to = SHAPE_CELLS + wide(dir[SHAPE_START + shape + 1]);
+    let mut places = [NO_PLACE; 32];
+    meet_store(words, dir, shape, start, cells, &mut places, sets)
+}
+
+// They have met before: the sets are made from the bindings.
+pub fn meet_stored<'a>(
+    words: &'a [u16],
+    dir: &'a [u16],
+    shape: usize,
+    start: usize,
+    cells: usize,
+    places: &[u8; 32],
+    sets: &mut [u32; 32],
+)
+    requires { ⌜ Meeting (now words) (now dir) shape start cells
+        × ((m : Meeting (now words) (now dir) shape start cells) → MetBindings (m .p .functions) (m .S) (m .A) (now places)) ⌝ }
+    ensures { λ _. ⌜ ((m : Meeting (now (words .entry)) (now (dir .entry)) shape start cells) → Unifying (m .S) (m .A) (now (sets .exit))) ⌝ }
+{
+    let run = shape_run(dir, shape);
+    let arities = functions_run(words, dir);
     let end = start + cells;
-    let functions = wide(dir[FUNCTIONS_START]);
-    let clauses = wide(dir[CLAUSES_START]);
-    let mut places = [0u8; 32];
-    unify(
-        &dir[from..to],
-        &words[start..end],
-        &words[PREDICATES_START..functions],
-        &words[functions..clauses],
-        &mut places,
-        sets,
-    )
+    sets_of(run, &words[start..end], arities, places, sets);
 }
 
 // The marks that pass; none comes out neither any nor ground.

@@ -1,87 +1,110 @@
 // Unifiers that are noted: what comes of shapes that meet one atom is noted, and taken from the notes where they meet it again in the same order.
 use crate::meet::meet;
-use terms::unifier::VARIABLES;
-use terms::walk::has;
-use terms::walk::only;
-ghost use mathlib.Core.Path.{_≡_};
-ghost use Prim.Native.Nat.{_+_, _≤_, _<_};
-ghost use lib.ListN.{length};
+use crate::meet::meet_store;
+use crate::meet::meet_stored;
+use crate::note_words::put_set;
+use crate::note_words::put_word;
+use crate::note_words::set_at;
+use crate::note_words::word_at;
+use crate::noted_places::bound_set;
+use crate::noted_places::count_of;
+use crate::noted_places::put_places;
+use crate::noted_places::take_places;
+use terms::unifier::NO_PLACE;
+ghost use mathlib.Core.List.{List};
+ghost use Prim.Native.Nat.{ℕ, _+_, _<_};
+ghost use Rattle.directory.specs.Layout.{maxShapes};
 ghost use Rattle.steps.specs.Situation.{Meeting, Met};
-ghost use Rattle.steps.specs.Unifiers.{allVariables, countOf, Coded, Fitting, Notes, SetsPut, NextWord};
+ghost use Rattle.steps.specs.NoteWords.{wordAt, WordPut};
+ghost use Rattle.steps.specs.Unifiers.{takenAt, Room, Fitting, Notes, ApartNoted, UnifiedNoted, NextWord, NextWithin, PlacesTaken};
 
-// The words that say how many words of the notes are taken, and how many the notes have; the notes stand behind them.
+// The words that say how many bytes of the notes are taken, and how many the notes have; the notes stand behind them.
 const TAKEN: usize = 0;
 
-const NOTED: usize = 1;
+const NOTED: usize = 2;
 
-const FIRST_NOTE: usize = 2;
+const FIRST_NOTE: usize = 4;
 
-// A longer slice gets no notes, so that how many words they have is always a word.
-const MOST_WORDS: usize = 65536;
+// What a note has before the places: a word, and behind it a set.
+const WORD: usize = 2;
+
+const WORD_AND_SET: usize = 6;
 
 // Greater than every word: there is no next note.
-const NO_WORD: usize = 4294967296;
+const NO_WORD: usize = 65536;
 
-// The set of the variables that do not stand for themselves alone, and behind it their sets. Says where they end; 0 where there is no room.
-fn put_sets(sets: &[u32; 32], unifiers: &mut [u32], at: usize) -> usize
-    requires { ⌜ at ≤ length (now unifiers) ⌝ }
-    ensures { λ r. ⌜ SetsPut (now (sets .entry)) (now (unifiers .entry)) (now (unifiers .exit)) at r ⌝ }
+// Nothing is noted any more.
+pub fn forget_notes(unifiers: &mut [u8])
+    requires { ⌜ Room (now unifiers) ⌝ }
+    ensures { λ _. ⌜ ((words dir : List ℕ) (start cells : ℕ) → Notes words dir start cells (now (unifiers .exit))) ⌝ }
 {
-    if unifiers.len() <= at {
-        return 0;
-    }
-    let mut other = 0u32;
-    let mut end = at + 1;
-    let mut x = 0;
-    while x < VARIABLES {
-        if sets[x] != only(x) {
-            if unifiers.len() <= end {
-                return 0;
-            }
-            other = other | only(x);
-            unifiers[end] = sets[x];
-            end += 1;
-        }
-        x += 1;
-    }
-    unifiers[at] = other;
-    end
+    put_word(unifiers, TAKEN, 0);
+    put_word(unifiers, NOTED, 0);
 }
 
-// The sets that were put behind a set. Says where they end.
-fn take_sets(unifiers: &[u32], other: u32, from: usize, sets: &mut [u32; 32]) -> usize
-    requires { ⌜ from + countOf other allVariables ≤ length (now unifiers) ⌝ }
-    ensures { λ r. ⌜ (r ≡ from + countOf other allVariables) × Coded (now (unifiers .entry)) (now (sets .exit)) other from allVariables ⌝ }
+// Notes behind the notes so far that a shape is apart, where there is room.
+fn note_apart(unifiers: &mut [u8], shape: usize)
+    requires { ⌜ Fitting (now unifiers) × (shape < maxShapes) ⌝ }
+    ensures { λ _. ⌜ ApartNoted shape (now (unifiers .entry)) (now (unifiers .exit)) ⌝ }
 {
-    *sets = [0; 32];
-    let mut end = from;
-    let mut x = 0;
-    while x < VARIABLES {
-        if has(other, x) {
-            sets[x] = unifiers[end];
-            end += 1;
-        } else {
-            sets[x] = only(x);
-        }
-        x += 1;
+    let noted = word_at(unifiers, NOTED);
+    let at = FIRST_NOTE + noted;
+    if unifiers.len() < at + WORD {
+        return;
     }
-    end
+    put_word(unifiers, at, 2 * shape);
+    put_word(unifiers, NOTED, noted + WORD);
+}
+
+// Notes behind the notes so far the bindings of a shape that unifies, where there is room.
+fn note_unified(unifiers: &mut [u8], shape: usize, places: &[u8; 32])
+    requires { ⌜ Fitting (now unifiers) × (shape < maxShapes) ⌝ }
+    ensures { λ _. ⌜ UnifiedNoted shape (now (places .entry)) (now (unifiers .entry)) (now (unifiers .exit)) ⌝ }
+{
+    let set = bound_set(places);
+    let count = count_of(set);
+    let noted = word_at(unifiers, NOTED);
+    let at = FIRST_NOTE + noted;
+    if unifiers.len() < at + WORD_AND_SET + count {
+        return;
+    }
+    put_word(unifiers, at, 2 * shape + 1);
+    put_set(unifiers, at + WORD, set);
+    put_places(places, set, unifiers, at + WORD_AND_SET);
+    put_word(unifiers, NOTED, noted + WORD_AND_SET + count);
 }
 
 // The first word of the next note that is not taken yet.
-fn next_word(unifiers: &[u32]) -> usize
+fn next_word(unifiers: &[u8]) -> usize
     requires { ⌜ Fitting (now unifiers) ⌝ }
-    ensures { λ r. ⌜ (r < 4294967296 → NextWord (now (unifiers .entry)) r) ⌝ }
+    ensures { λ r. ⌜ (r < 65536 → NextWord (now (unifiers .entry)) r) ⌝ }
 {
-    if unifiers.len() < FIRST_NOTE {
+    let taken = word_at(unifiers, TAKEN);
+    let noted = word_at(unifiers, NOTED);
+    if noted < taken + WORD {
         return NO_WORD;
     }
-    let taken = unifiers[TAKEN] as usize;
-    let noted = unifiers[NOTED] as usize;
-    if noted <= taken {
-        return NO_WORD;
-    }
-    unifiers[FIRST_NOTE + taken] as usize
+    word_at(unifiers, FIRST_NOTE + taken)
+}
+
+// Takes the next note, of a shape that is apart.
+fn take_apart(unifiers: &mut [u8])
+    requires { ⌜ Room (now unifiers) × (wordAt (now unifiers) takenAt + 2 < 65536) ⌝ }
+    ensures { λ _. ⌜ WordPut (now (unifiers .entry)) (now (unifiers .exit)) takenAt (wordAt (now (unifiers .entry)) takenAt + 2) ⌝ }
+{
+    let taken = word_at(unifiers, TAKEN);
+    put_word(unifiers, TAKEN, taken + WORD);
+}
+
+// Takes the next note, of a shape that unifies, and its places.
+fn take_unified(unifiers: &mut [u8], places: &mut [u8; 32])
+    requires { ⌜ NextWithin (now unifiers) ⌝ }
+    ensures { λ _. ⌜ PlacesTaken (now (unifiers .entry)) (now (unifiers .exit)) (now (places .exit)) ⌝ }
+{
+    let at = FIRST_NOTE + word_at(unifiers, TAKEN);
+    let set = set_at(unifiers, at + WORD);
+    let end = take_places(unifiers, set, at + WORD_AND_SET, places);
+    put_word(unifiers, TAKEN, end - FIRST_NOTE);
 }
 
 // A shape meets the atom for the first time: what comes of it is noted behind the notes so far, where there is room.
@@ -92,33 +115,18 @@ pub fn meet_noting<'a>(
     start: usize,
     cells: usize,
     sets: &mut [u32; 32],
-    unifiers: &mut [u32],
+    unifiers: &mut [u8],
 ) -> bool
     requires { ⌜ Meeting (now words) (now dir) shape start cells × Notes (now words) (now dir) start cells (now unifiers) ⌝ }
     ensures { λ r. ⌜ ((m : Meeting (now (words .entry)) (now (dir .entry)) shape start cells) → Met (m .S) (m .A) r (now (sets .exit)))
         × Notes (now (words .entry)) (now (dir .entry)) start cells (now (unifiers .exit)) ⌝ }
 {
-    let unified = meet(words, dir, shape, start, cells, sets);
-    if unifiers.len() < FIRST_NOTE {
-        return unified;
-    }
-    if MOST_WORDS < unifiers.len() {
-        return unified;
-    }
-    let at = FIRST_NOTE + unifiers[NOTED] as usize;
-    if unifiers.len() <= at {
-        return unified;
-    }
-    if unified {
-        unifiers[at] = (2 * shape + 1) as u32;
-        let end = put_sets(sets, unifiers, at + 1);
-        if end != 0 {
-            unifiers[NOTED] = (end - FIRST_NOTE) as u32;
-        }
+    let mut places = [NO_PLACE; 32];
+    if meet_store(words, dir, shape, start, cells, &mut places, sets) {
+        note_unified(unifiers, shape, &places);
         return true;
     }
-    unifiers[at] = (2 * shape) as u32;
-    unifiers[NOTED] = (at + 1 - FIRST_NOTE) as u32;
+    note_apart(unifiers, shape);
     false
 }
 
@@ -130,7 +138,7 @@ pub fn meet_noted<'a>(
     start: usize,
     cells: usize,
     sets: &mut [u32; 32],
-    unifiers: &mut [u32],
+    unifiers: &mut [u8],
 ) -> bool
     requires { ⌜ Meeting (now words) (now dir) shape start cells × Notes (now words) (now dir) start cells (now unifiers) ⌝ }
     ensures { λ r. ⌜ ((m : Meeting (now (words .entry)) (now (dir .entry)) shape start cells) → Met (m .S) (m .A) r (now (sets .exit)))
@@ -138,14 +146,13 @@ pub fn meet_noted<'a>(
 {
     let word = next_word(unifiers);
     if word == 2 * shape {
-        unifiers[TAKEN] = unifiers[TAKEN] + 1;
+        take_apart(unifiers);
         return false;
     }
     if word == 2 * shape + 1 {
-        let at = FIRST_NOTE + unifiers[TAKEN] as usize;
-        let other = unifiers[at + 1];
-        let end = take_sets(unifiers, other, at + 2, sets);
-        unifiers[TAKEN] = (end - FIRST_NOTE) as u32;
+        let mut places = [NO_PLACE; 32];
+        take_unified(unifiers, &mut places);
+        meet_stored(words, dir, shape, start, cells, &places, sets);
         return true;
     }
     meet(words, dir, shape, start, cells, sets)

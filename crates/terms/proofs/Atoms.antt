@@ -50,7 +50,7 @@ alone-powers = refl
 alone-at : (x : ℕ) → x < 32 → getD alone x 0 ≡ 2 ^ x
 alone-at x h = ap (λ (l : List ℕ). getD l x 0) alone-powers ∙ power-at 32 0 x h ∙ ap (λ (j : ℕ). 2 ^ j) (zero-add x)
 
-no-place-at : (x : ℕ) → getD noPlaces x noPlace ≡ noPlace
+pub no-place-at : (x : ℕ) → getD noPlaces x noPlace ≡ noPlace
 no-place-at x = go (decLt x 32)
   where
     go : Dec (x < 32) → getD noPlaces x noPlace ≡ noPlace

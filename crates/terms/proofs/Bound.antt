@@ -61,7 +61,7 @@ module _ (F a b places sets : List ℕ) (σ : Subst) (x p gained : ℕ) (K : Kep
   abbrev pub Gained : Type 0
   Gained = Union (enc (here .term)) (baseOf p) sets gained
 
-  gained-set : Gained → (z : ℕ) → Has gained z ↔ Occ z (sub term σ)
+  pub gained-set : Gained → (z : ℕ) → Has gained z ↔ Occ z (sub term σ)
   gained-set is z =
       rw (here .stands)
       (gained-right F sets (baseOf p) (here .term) σ gained (base-small p) (here .keeps) (keeps-below F (here .term) (here .keeps)) (K .sets-right) is z)

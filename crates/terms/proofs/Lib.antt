@@ -23,3 +23,4 @@ pub mod GoingOn
 pub mod Atoms
 pub mod Standing
 pub mod Stores
+pub mod Refilled

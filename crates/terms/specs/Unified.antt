@@ -1,11 +1,11 @@
 -- What unification leaves: a most general unifier, and for each variable the set of the variables of what it stands for.
-use Prim.Native.Nat.{ℕ, _+_, _<_}
+use Prim.Native.Nat.{ℕ, _+_, _≤_, _<_}
 use mathlib.Core.Path.{_≡_}
 use mathlib.Core.List.{List}
 use mathlib.Core.Bool.{Bool}
 use lib.ListN.{length, getD}
 use Rattle.terms.specs.Term.{Term, Subst, var, Occ}
-use Rattle.terms.specs.Cells.{variables, pick, enc, Atom, Run}
+use Rattle.terms.specs.Cells.{variables, atomCells, pick, enc, Atom, Run}
 use Rattle.terms.specs.Mask.{Marks}
 use Rattle.terms.specs.Unifier.{Apart, MostGeneral}
 use Rattle.terms.specs.Store.{noPlace, cellsAt, bound, Stands}
@@ -24,6 +24,18 @@ pub record Unified (functions a b : List ℕ) (A B : Term) (places sets : List �
   pub sets-right : Sets σ (λ v. σ (variables + v)) sets
   pub all-places : length places ≡ variables + variables
   pub whole : (x : ℕ) → getD places x noPlace < noPlace → Run functions (cellsAt a b (getD places x noPlace)) 1
+
+-- the bindings are those of a most general unifier of the two atoms
+abbrev pub Bindings : List ℕ → List ℕ → List ℕ → Term → Term → List ℕ → Type 0
+Bindings functions a b A B places = (sets : List ℕ) × Unified functions a b A B places sets
+
+-- the store that unification left of two atoms of at most 32 cells
+pub record StoreOf (functions a b places : List ℕ) : Type 0 where
+  pub A : Term
+  pub B : Term
+  pub bindings : Bindings functions a b A B places
+  pub first-short : length a ≤ atomCells
+  pub second-short : length b ≤ atomCells
 
 -- the answer on two runs of cells that are atoms: apart, or unified
 abbrev pub Unification : List ℕ → List ℕ → List ℕ → List ℕ → Bool → List ℕ → List ℕ → Type 0

@@ -97,7 +97,7 @@ pub fn resolve<'a>(a: &'a [u16], b: &'a [u16], functions: &[u16], place: usize) 
 }
 
 // Every set that has x loses it and gains the other set.
-fn replace(sets: &mut [u32; 32], x: usize, gained: u32)
+pub fn replace(sets: &mut [u32; 32], x: usize, gained: u32)
     requires { ⌜ (x < 32) × (length (now sets) ≡ 32) ⌝ }
     ensures { λ _. ⌜ AllReplaced x gained (now (sets .entry)) (now (sets .exit)) ⌝ }
 {
@@ -126,7 +126,13 @@ fn base_of(place: usize) -> usize
 }
 
 // The set of what the term at a place stands for: a variable's own, or the union of those of the term's variables.
-fn set_at<'a>(a: &'a [u16], b: &'a [u16], functions: &[u16], place: usize, sets: &[u32; 32]) -> u32
+pub fn set_at<'a>(
+    a: &'a [u16],
+    b: &'a [u16],
+    functions: &[u16],
+    place: usize,
+    sets: &[u32; 32],
+) -> u32
     requires { ⌜ (Run (now functions) (cellsAt (now a) (now b) place) 1) × (place < 128) × (length (now a) ≤ 32) ⌝ }
     ensures { λ r. ⌜ ((z : ℕ) → Has r z ↔ InSets (take (cellsOf (now (functions .entry)) (cellsAt (now (a .entry)) (now (b .entry)) place) 1)
         (cellsAt (now (a .entry)) (now (b .entry)) place)) (baseOf place) (now (sets .entry)) z) ⌝ }
@@ -242,7 +248,7 @@ fn unify_terms<'a>(
 }
 
 // At first every variable is unbound, and stands for itself.
-const ALONE: [u32; 32] = [
+pub const ALONE: [u32; 32] = [
     1,
     2,
     4,

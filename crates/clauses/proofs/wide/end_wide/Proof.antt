@@ -6,7 +6,7 @@ use borrow.Author.Needs.{needs}
 use mathlib.Core.Path.{_≡_, refl, ap, _∙_}
 use mathlib.Core.Logic.{⊎-elim}
 use mathlib.Core.List.{[]}
-use lib.ListN.{length, getD, replicate, length-replicate}
+use lib.ListN.{length, getD, replicate}
 use Rattle.directory.specs.Directory.{predicateOf}
 use Rattle.rows.specs.MaskSet.{setWords}
 use Rattle.rows.proofs.ClearedMarks.{marks-shifted, cleared-empty}

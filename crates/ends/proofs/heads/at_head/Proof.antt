@@ -2,8 +2,8 @@
 -- is how many shapes may be left. Assumes nothing.
 use native.Mathlib.Omega.{arith}
 use borrow.Author.Needs.{needs}
-use mathlib.Core.Path.{_≡_, refl, sym, ap, _∙_}
-use lib.ListN.{length, replicate}
+use mathlib.Core.Path.{_≡_, refl, sym, _∙_}
+use lib.ListN.{length}
 use Rattle.rows.specs.MaskSet.{setWords}
 use Rattle.steps.specs.Unifiers.{Notes}
 use Rattle.steps.proofs.ShapeLinks.{shapesLeft}

@@ -7,7 +7,7 @@ use mathlib.Core.Path.{_≡_, sym, _∙_}
 use mathlib.Core.Logic.{⊎-elim}
 use lib.ListN.{length}
 use Rattle.rows.specs.MaskSet.{setWords}
-use Rattle.solving.specs.Solving.{NoneSolved}
+use Rattle.solving.specs.SolvedSets.{NoneSolved}
 use Rattle.solving.proofs.ClearedSets.{passedWords, none-solved-all, none-solved-fewer}
 use Rattle.solving.proofs.solve.solve_set.Statement.{statement}
 use Rattle.solving.proofs.solve.solve_set.Tie as tie

@@ -1,0 +1,94 @@
+-- `note_unified` meets its contract: the shape's word, the set of the bound variables and their places stand behind the notes, and the notes end
+-- behind them. Assumes nothing.
+use mathlib.Core.Path.{refl}
+use borrow.Author.Needs.{needs}
+use Rattle.steps.proofs.NotedUnifiers.{note-unified}
+use Rattle.steps.proofs.unifiers.note_unified.Statement.{statement}
+use Rattle.steps.proofs.unifiers.note_unified.Tie as tie
+
+bound-set-requires : tie.Need-bound-set-requires
+bound-set-requires c κs = search needs
+
+count-of-requires : tie.Need-count-of-requires
+count-of-requires c κs = search needs
+
+word-at-requires : tie.Need-word-at-requires
+word-at-requires c κs = search needs
+
+add-at : tie.Need-add-at
+add-at c = search needs
+
+add-if1 : tie.Need-add-if1
+add-if1 c = search needs
+
+add-if1-2 : tie.Need-add-if1-2
+add-if1-2 c = search needs
+
+same-length : tie.Need-same-length
+same-length c = search needs
+
+returns : tie.Need-returns
+returns c = search needs
+
+mul-put-word : tie.Need-mul-put-word
+mul-put-word c = search needs
+
+add-put-word : tie.Need-add-put-word
+add-put-word c = search needs
+
+put-word-requires : tie.Need-put-word-requires
+put-word-requires c κs = search needs
+
+add-put-set : tie.Need-add-put-set
+add-put-set c = search needs
+
+put-set-requires : tie.Need-put-set-requires
+put-set-requires c κs = search needs
+
+add-put-places : tie.Need-add-put-places
+add-put-places c = search needs
+
+put-places-requires : tie.Need-put-places-requires
+put-places-requires c κs = search needs
+
+add-put-word-2 : tie.Need-add-put-word-2
+add-put-word-2 c = search needs
+
+add-put-word-3 : tie.Need-add-put-word-3
+add-put-word-3 c = search needs
+
+put-word-requires-2 : tie.Need-put-word-requires-2
+put-word-requires-2 c κs = search needs
+
+same-length-2 : tie.Need-same-length-2
+same-length-2 c = search needs
+
+returns-2 : tie.Need-returns-2
+returns-2 c =
+    λ words dir start cells n u. note-unified n (c .before .before .before .before .before .before .before .before .before .before .before .before .before .before .before .before .before .word-at .ensures .0) refl (c .before .before .before .before .before .before .before .before .before .before .before .before .before .before .before .before .before .before .before .count-of .ensures .0) (c .before .before .before .before .before .before .before .before .before .before .before .before .before .before .before .before .if1 .left)
+    (c .before .before .before .before .before .before .before .before .before .before .before .before .before .before .before .before .before .before .before .before .bound-set .ensures) (c .before .before .before .before .before .before .before .before .before .before .before .before .before .before .put-word .ensures) (c .before .before .before .before .before .before .before .before .before .before .put-set .ensures) (c .before .before .before .before .before .before .put-places .ensures) (c .before .before .put-word2 .ensures) u
+
+pub note-unified-spec : {M : Type 1} → statement M
+note-unified-spec =
+    tie.close
+    (tie.spec
+    bound-set-requires
+    count-of-requires
+    word-at-requires
+    add-at
+    add-if1
+    add-if1-2
+    same-length
+    returns
+    mul-put-word
+    add-put-word
+    put-word-requires
+    add-put-set
+    put-set-requires
+    add-put-places
+    put-places-requires
+    add-put-word-2
+    add-put-word-3
+    put-word-requires-2
+    same-length-2
+    returns-2)
