@@ -9,6 +9,7 @@
  * then 0, and every word and byte of the lent output is 0. Places are word indexes for words, and byte offsets for texts and names.
  *
  * Pointers are valid, aligned and never NULL, also for length 0; no two of the buffers, *place and *count overlap.
+ * A thread that calls them should have 96 KiB of stack.
  */
 #ifndef THREADKNOLL_H
 #define THREADKNOLL_H

@@ -19,7 +19,7 @@ ghost use Rattle.directory.specs.Directory.{Directory};
 ghost use Rattle.table.specs.Table.{roomIn, Promise};
 ghost use Rattle.analysis.specs.Finished.{FinishAsked, InTable};
 
-// The bytes in which a fact notes what comes of its head and the shapes of calls to it: as many as the shapes of any program can take.
+// The bytes in which a clause without a body notes what comes of its head and the shapes of calls to it: as many as those of any program can take.
 const UNIFIER_BYTES: usize = 10400;
 
 // "The room in rows is the length over five, rounded down, but at most 4,096."

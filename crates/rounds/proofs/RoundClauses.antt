@@ -18,16 +18,11 @@ use Rattle.table.proofs.Looking.{by-clauses}
 use Rattle.table.proofs.Promise.{sound-same}
 use Rattle.steps.specs.Steps.{RowsIn, Writable, Grew, Stepped}
 use Rattle.steps.specs.Situation.{Situation, HeadAsked}
-use Rattle.steps.specs.Unifiers.{Room}
 use Rattle.concerns.specs.Active.{Concerns}
 use Rattle.rounds.specs.Rounds.{LookAsked}
 use Rattle.steps.proofs.Stepping.{keys-stay, grew-none, stepped-then, stepped-must}
 use Rattle.clauses.proofs.MiddlePlaces.{below-one-more}
 use Rattle.ends.proofs.ClauseRows.{stands-on}
-
--- bytes of the same length have room for notes too
-pub room-same : {before after : List ℕ} → length after ≡ length before → Room before → Room after
-room-same e r = record { some = omega (arith, e, r .some); few = omega (arith, e, r .few) }
 
 -- words say one program, so that what is asked for it holds for every situation
 pub asked-every : {words dir table heads : List ℕ} {since rows k concerns : ℕ} → LookAsked words dir table heads since rows k concerns

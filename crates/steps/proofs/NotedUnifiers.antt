@@ -20,7 +20,7 @@ no-notes words dir start cells unifiers room taken noted =
     record { fitting = record { room = room; within = omega (arith, room .some) }; left = rw (taken, noted) none }
 
 -- bytes of the same length have the same room
-room-stays : (unifiers unifiers′ : List ℕ) → length unifiers′ ≡ length unifiers → Room unifiers → Room unifiers′
+pub room-stays : (unifiers unifiers′ : List ℕ) → length unifiers′ ≡ length unifiers → Room unifiers → Room unifiers′
 room-stays unifiers unifiers′ size room = record { some = omega (arith, room .some); few = omega (arith, room .few) }
 
 -- both words are set to 0

@@ -1,9 +1,9 @@
 -- Where the analysis stands: an accepted program with its directory, the rows so far in chains by slot, and where an atom of the program is.
-use Prim.Native.Nat.{ℕ, suc, _+_, _*_, _≤_, _<_}
+use Prim.Native.Nat.{ℕ, suc, _*_, _≤_, _<_}
 use mathlib.Core.Path.{_≡_}
 use mathlib.Core.Bool.{Bool}
 use mathlib.Core.List.{List}
-use lib.ListN.{length, getD}
+use lib.ListN.{length}
 use Rattle.terms.specs.Term.{Term, Subst, Occ}
 use Rattle.terms.specs.Cells.{Atom, enc, pick}
 use Rattle.terms.specs.Mask.{Marks}

@@ -31,7 +31,7 @@ pub fn put_word(bytes: &mut [u8], i: usize, word: usize)
 }
 
 // The set in four bytes.
-pub fn set_at(bytes: &[u8], i: usize) -> u32
+pub fn noted_set(bytes: &[u8], i: usize) -> u32
     requires { ⌜ i + 4 ≤ length (now bytes) ⌝ }
     ensures { λ r. ⌜ r ≡ setAt (now (bytes .entry)) i ⌝ }
 {

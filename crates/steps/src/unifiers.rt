@@ -2,9 +2,9 @@
 use crate::meet::meet;
 use crate::meet::meet_store;
 use crate::meet::meet_stored;
+use crate::note_words::noted_set;
 use crate::note_words::put_set;
 use crate::note_words::put_word;
-use crate::note_words::set_at;
 use crate::note_words::word_at;
 use crate::noted_places::bound_set;
 use crate::noted_places::count_of;
@@ -102,7 +102,7 @@ fn take_unified(unifiers: &mut [u8], places: &mut [u8; 32])
     ensures { λ _. ⌜ PlacesTaken (now (unifiers .entry)) (now (unifiers .exit)) (now (places .exit)) ⌝ }
 {
     let at = FIRST_NOTE + word_at(unifiers, TAKEN);
-    let set = set_at(unifiers, at + WORD);
+    let set = noted_set(unifiers, at + WORD);
     let end = take_places(unifiers, set, at + WORD_AND_SET, places);
     put_word(unifiers, TAKEN, end - FIRST_NOTE);
 }

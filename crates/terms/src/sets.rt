@@ -8,8 +8,8 @@ use crate::unifier::wide_place;
 ghost use Rattle.terms.specs.Term.{Term};
 ghost use Rattle.terms.specs.Unified.{Unified, Bindings, StoreOf};
 
-// The sets of a store that unification left, made from its bindings alone: nothing is compared. A variable that is bound is put out of every set
-// for those of what it is bound to, in whatever order the variables are taken.
+// The sets of a store that unification left, made from its bindings alone: nothing is compared. Every set that has a bound variable loses it and gains the
+// set of what it is bound to; the order of the variables does not matter.
 pub fn sets_of<'a>(
     a: &'a [u16],
     b: &'a [u16],

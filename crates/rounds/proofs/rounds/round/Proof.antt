@@ -16,7 +16,8 @@ use Rattle.ends.specs.Ends.{Scratch}
 use Rattle.ends.specs.Keeping.{Keeps}
 use Rattle.joining.specs.KeptAnswers.{KeepsAnswers}
 use Rattle.steps.proofs.Stepping.{stepped-within, stepped-past}
-use Rattle.rounds.proofs.RoundClauses.{room-same, clauses-begin, look-asked, clauses-next, clauses-end}
+use Rattle.steps.proofs.NotedUnifiers.{room-stays}
+use Rattle.rounds.proofs.RoundClauses.{clauses-begin, look-asked, clauses-next, clauses-end}
 use Rattle.rounds.proofs.rounds.round.Statement.{statement}
 use Rattle.rounds.proofs.rounds.round.Tie as tie
 
@@ -51,7 +52,7 @@ look-requires c κs =
     let w = c .before .before .before .before .before .before .before .before .before .before .before .before .before .before .before .before .before .before .before .before .before .before .before .before .before .pre .0 .situation in
     let g = inv .8 w in
     let b : c .before .before .before .before .before .before .before .before .loop .k < length (w .p .clauses) = omega (arith, c .before .before .before .before .before .before .before .loop-test .taken, inv .7, w .setting .directory .clause-count) in
-    (look-asked _ _ _ _ _ _ _ _ _ w _ _ _ _ b g _ (c .before .before .before .before .before .before .before .before .before .active .ensures w (c .before .before .before .before .before .before .before .before .before .before .before .before .before .before .before .before .before .before .before .before .before .before .before .before .before .pre .0 .indexed) _), g .writable, g .more, inv .6, inv .10, inv .11, room-same (inv .3) (c .before .before .before .before .before .before .before .before .before .before .before .before .before .before .before .before .before .before .before .before .before .before .before .before .before .pre .5))
+    (look-asked _ _ _ _ _ _ _ _ _ w _ _ _ _ b g _ (c .before .before .before .before .before .before .before .before .before .active .ensures w (c .before .before .before .before .before .before .before .before .before .before .before .before .before .before .before .before .before .before .before .before .before .before .before .before .before .pre .0 .indexed) _), g .writable, g .more, inv .6, inv .10, inv .11, room-stays _ _ (inv .3) (c .before .before .before .before .before .before .before .before .before .before .before .before .before .before .before .before .before .before .before .before .before .before .before .before .before .pre .5))
 
 same-length : tie.Need-same-length Inv-loop μ-loop
 same-length c = c .before .before .before .before .before .before .before .before .before .before .before .before .before .before .before .look .kept .1 .1 .0 ∙ c .before .before .before .before .before .before .before .before .before .before .before .before .before .before .before .before .before .before .before .before .before .before .before .before .loop .inv .1

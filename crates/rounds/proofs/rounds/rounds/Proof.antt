@@ -13,7 +13,7 @@ use Rattle.ends.specs.Keeping.{Keeps}
 use Rattle.joining.specs.KeptAnswers.{answerWords, KeepsAnswers}
 use Rattle.joining.proofs.KeptPlaces.{answers-none}
 use Rattle.ends.proofs.KeptMarks.{keeping-none}
-use Rattle.rounds.proofs.RoundClauses.{room-same}
+use Rattle.steps.proofs.NotedUnifiers.{room-stays}
 use Rattle.rounds.proofs.RoundByRound.{Rounding, no-room, no-room-by-one, round-zero-there}
 use Rattle.rounds.proofs.RoundTurns.{turn, turn-situation, turn-writable, turn-keeps, turn-keeps-answers, turn-over, turn-last, turn-less, turn-again}
 use Rattle.rounds.proofs.rounds.rounds.Statement.{statement}
@@ -96,7 +96,7 @@ round-requires c κs =
       c .before .before .before .before .before .before .before .before .before .before .before .before .before .before .before .before .before .loop .inv .6,
       turn-keeps t _ (c .before .before .before .before .before .before .before .before .before .before .before .before .before .before .before .before .before .loop .inv .9),
       turn-keeps-answers t _ (c .before .before .before .before .before .before .before .before .before .before .before .before .before .before .before .before .before .loop .inv .10),
-      room-same (c .before .before .before .before .before .before .before .before .before .before .before .before .before .before .before .before .before .loop .inv .3) (c .before .before .before .before .before .before .before .before .before .before .before .before .before .before .before .before .before .before .before .before .before .before .before .before .before .before .before .before .before .before .before .before .before .before .before .before .before .before .before .before .before .before .before .pre .room-for-notes),
+      room-stays _ _ (c .before .before .before .before .before .before .before .before .before .before .before .before .before .before .before .before .before .loop .inv .3) (c .before .before .before .before .before .before .before .before .before .before .before .before .before .before .before .before .before .before .before .before .before .before .before .before .before .before .before .before .before .before .before .before .before .before .before .before .before .before .before .before .before .before .before .pre .room-for-notes),
     )
 
 same-length-3 : tie.Need-same-length-3 Inv-loop μ-loop

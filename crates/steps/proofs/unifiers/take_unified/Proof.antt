@@ -10,24 +10,24 @@ word-at-requires c κs = search needs
 add-at : tie.Need-add-at
 add-at c = search needs
 
-add-set-at : tie.Need-add-set-at
-add-set-at c = search needs
+add-noted-set : tie.Need-add-noted-set
+add-noted-set c = search needs
 
-set-at-requires : tie.Need-set-at-requires
-set-at-requires c κs = search needs
+noted-set-requires : tie.Need-noted-set-requires
+noted-set-requires c κs = search needs
 
 add-take-places : tie.Need-add-take-places
 add-take-places c = search needs
 
 take-places-requires : tie.Need-take-places-requires
-take-places-requires c κs = next-fits (c .before .before .before .before .before .before .before .pre) (c .before .before .before .before .word-at .ensures .0) (c .before .before .set-at .ensures)
+take-places-requires c κs = next-fits (c .before .before .before .before .before .before .before .pre) (c .before .before .before .before .word-at .ensures .0) (c .before .before .noted-set .ensures)
 
 sub-put-word : tie.Need-sub-put-word
 sub-put-word c = search needs
 
 put-word-requires : tie.Need-put-word-requires
 put-word-requires c κs =
-    next-counted (c .before .before .before .before .before .before .before .before .before .pre) (c .before .before .before .before .before .before .word-at .ensures .0) (c .before .before .before .before .set-at .ensures) (c .before .take-places .ensures .0)
+    next-counted (c .before .before .before .before .before .before .before .before .before .pre) (c .before .before .before .before .before .before .word-at .ensures .0) (c .before .before .before .before .noted-set .ensures) (c .before .take-places .ensures .0)
 
 same-length : tie.Need-same-length
 same-length c = search needs
@@ -35,7 +35,7 @@ same-length c = search needs
 returns : tie.Need-returns
 returns c =
     let places = c .before .before .before .before .take-places .ensures in
-    next-taken (c .before .before .before .before .before .before .before .before .before .before .before .before .pre) (c .before .before .before .before .before .before .before .before .before .word-at .ensures .0) (c .before .before .before .before .before .before .before .set-at .ensures) (places .0) (places .1) (places .2) (c .before .before .put-word .ensures)
+    next-taken (c .before .before .before .before .before .before .before .before .before .before .before .before .pre) (c .before .before .before .before .before .before .before .before .before .word-at .ensures .0) (c .before .before .before .before .before .before .before .noted-set .ensures) (places .0) (places .1) (places .2) (c .before .before .put-word .ensures)
 
 pub take-unified-spec : {M : Type 1} → statement M
 take-unified-spec =
@@ -43,8 +43,8 @@ take-unified-spec =
     (tie.spec
     word-at-requires
     add-at
-    add-set-at
-    set-at-requires
+    add-noted-set
+    noted-set-requires
     add-take-places
     take-places-requires
     sub-put-word

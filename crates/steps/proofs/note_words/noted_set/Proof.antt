@@ -1,9 +1,9 @@
--- `set_at` meets its contract: a set is its two words. Assumes nothing.
+-- `noted_set` meets its contract: a set is its two words. Assumes nothing.
 use native.Mathlib.Omega.{arith}
 use borrow.Author.Needs.{needs}
 use Rattle.steps.proofs.NoteWords.{set-is}
-use Rattle.steps.proofs.note_words.set_at.Statement.{statement}
-use Rattle.steps.proofs.note_words.set_at.Tie as tie
+use Rattle.steps.proofs.note_words.noted_set.Statement.{statement}
+use Rattle.steps.proofs.note_words.noted_set.Tie as tie
 
 word-at-requires : tie.Need-word-at-requires
 word-at-requires c κs = search needs
@@ -26,8 +26,8 @@ cast-result c = search needs
 returns : tie.Need-returns
 returns c = let st = c .before .before .before in omega (arith, set-is (st .args .bytes .now) (st .args .i))
 
-pub set-at-spec : {M : Type 1} → statement M
-set-at-spec =
+pub noted-set-spec : {M : Type 1} → statement M
+noted-set-spec =
     tie.close
     (tie.spec
     word-at-requires
