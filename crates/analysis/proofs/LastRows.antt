@@ -24,7 +24,7 @@ use Rattle.table.proofs.RoundLaws.{rounds-grow, first-once}
 use Rattle.table.proofs.ShapeVariables.{within-few}
 use Rattle.table.proofs.Regular.{at-regular}
 use Rattle.table.proofs.Keys.{row-of-key, entry-before, mask-small}
-use Rattle.table.proofs.Entries.{ascending-append}
+use Rattle.table.proofs.Promise.{ascending-append}
 use Rattle.table.proofs.RoundEntries.{rounded-table}
 use Rattle.table.proofs.RoundKeys.{keyed-row}
 use Rattle.steps.specs.Situation.{Setting}

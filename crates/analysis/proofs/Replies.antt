@@ -13,7 +13,8 @@ use Rattle.program.specs.Faults.{Found, fault, sound, faults, replyOf}
 use Rattle.program.specs.Reply.{done}
 use Rattle.program.specs.declared.reply.Reply.{Reply}
 use Rattle.directory.specs.Directory.{Directory}
-use Rattle.table.specs.Table.{rowSize, roomIn, MoreThan, Promise, faulty, listed}
+use Rattle.table.specs.Promise.{faulty, listed}
+use Rattle.table.specs.Table.{rowSize, roomIn, MoreThan, Promise}
 use Rattle.steps.specs.Situation.{Setting}
 use Rattle.rounds.specs.Rounds.{Complete, Finished}
 use Rattle.analysis.specs.Finished.{InTable}
@@ -27,7 +28,7 @@ module _ (words : List ℕ) (r : Reply) (is : r ≡ replyOf (faults words)) wher
   pub refused-faulty : (size : ℕ) (table : List ℕ) → (r .number ≡ 0 → ⊥) → table ≡ replicate size 0 → Promise words size r table
   refused-faulty size table nz zeros = at (faults words) refl
     where
-      at : (f : Found) → faults words ≡ f → Promise words size r table
+      at : (f : Found Program) → faults words ≡ f → Promise words size r table
       at (fault number place) e = faulty number place e (is ∙ ap replyOf e) zeros
       at (sound p) e = absurd (nz (ap (λ (x : Reply). x .number) (is ∙ ap replyOf e)))
 

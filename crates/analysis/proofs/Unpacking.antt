@@ -11,7 +11,7 @@ use Rattle.rows.specs.Rows.{rowSize, slotAt, maskAt}
 use Rattle.table.specs.Rules.{Row, call, cont, solution}
 use Rattle.table.specs.Table.{Entry, rowWords, entryWords, tableWords, mask}
 use Rattle.table.specs.Keys.{Regular, regular-call, regular-cont, regular-solution, slotOf}
-use Rattle.table.proofs.Entries.{table-words-length, table-words-append}
+use Rattle.table.proofs.Promise.{table-words-length, table-words-append}
 use Rattle.steps.specs.Situation.{Setting, BodyOf}
 use Rattle.concerns.specs.Standing.{Stands}
 use Rattle.concerns.proofs.BodyClauses.{shapes-below, bodies-below}

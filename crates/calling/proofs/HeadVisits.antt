@@ -21,7 +21,7 @@ use Rattle.rows.specs.MaskSet.{setWords}
 use Rattle.directory.specs.Layout.{clauseHead, clauseCells, clauseVars, shapeNext, predicateShape, dirWords}
 use Rattle.directory.specs.Directory.{Stands-at, Link, predicateOf}
 use Rattle.table.specs.Steps.{opens}
-use Rattle.table.proofs.Promise.{sound-same}
+use Rattle.program.proofs.FoundLaws.{sound-same}
 use Rattle.steps.specs.Situation.{Situation, ClauseOf, HeadAsked}
 use Rattle.steps.specs.Heads.{ReachedSince, HeadMark, Marked, Told}
 use Rattle.calling.specs.Calls.{OpenedBy, OpenedBelow, MarkShape}

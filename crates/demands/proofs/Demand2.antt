@@ -13,7 +13,7 @@ use Rattle.program.specs.declared.reply.Reply.{Reply}
 use Rattle.table.specs.Rules.{Row}
 use Rattle.table.specs.Rounds.{Least}
 use Rattle.table.specs.Table.{roomIn, MoreThan}
-use Rattle.table.proofs.Promise.{sound-same}
+use Rattle.program.proofs.FoundLaws.{sound-same}
 use Rattle.runs.specs.TableRows.{StandsIn}
 use Rattle.runs.proofs.TableRuns.{promise-trusted}
 use Rattle.cells.specs.Table.{right, Scenario}

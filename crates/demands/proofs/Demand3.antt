@@ -14,7 +14,7 @@ use Rattle.program.specs.Reply.{accepted}
 use Rattle.program.specs.Faults.{sound, faults}
 use Rattle.program.specs.declared.reply.Reply.{Reply}
 use Rattle.table.specs.Rules.{call, solution}
-use Rattle.table.proofs.Promise.{sound-same}
+use Rattle.program.proofs.FoundLaws.{sound-same}
 use Rattle.runs.specs.Run.{Called, Solved}
 use Rattle.runs.specs.Cover.{Covered, CoversRuns}
 use Rattle.runs.specs.TableRows.{StandsIn}

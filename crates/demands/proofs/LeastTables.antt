@@ -7,15 +7,16 @@ use Rattle.program.specs.Program.{Program}
 use Rattle.program.specs.Faults.{sound, faults}
 use Rattle.program.specs.Reply.{accepted, noRoom}
 use Rattle.program.specs.declared.reply.Reply.{Reply}
-use Rattle.table.specs.Table.{roomIn, MoreThan, Promise, faulty, listed, full, unmarked}
-use Rattle.table.proofs.Promise.{table-least, row-once, round-below, fault-or-sound, sound-same, neither-never}
+use Rattle.table.specs.Promise.{faulty, listed, full}
+use Rattle.table.specs.Table.{roomIn, MoreThan, Promise}
+use Rattle.program.proofs.FoundLaws.{fault-or-sound, sound-same}
+use Rattle.table.proofs.Promise.{table-least, row-once, round-below}
 use Rattle.demands.specs.LeastTable.{LeastTable}
 
 module _ (words : List ℕ) (p : Program) (says : faults words ≡ sound p) (size : ℕ) (reply : Reply) (table : List ℕ) where
   pub accepted-least : Promise words size reply table → reply .number ≡ accepted → LeastTable p size reply table
   accepted-least (faulty n q f e z) number-0 = absurd (fault-or-sound _ f says)
   accepted-least (full p′ f h e z) number-0 = absurd (let b : noRoom ≡ accepted = rw e at number-0 in omega arith)
-  accepted-least (unmarked p′ f h e z) number-0 = absurd (neither-never p′ h)
   accepted-least (listed p′ entries f h l e z) number-0 =
       let t = rw (sound-same _ f says) at h in
       record {
@@ -33,4 +34,3 @@ module _ (words : List ℕ) (p : Program) (says : faults words ≡ sound p) (siz
   room-accepted (faulty n q f e z) room = absurd (fault-or-sound _ f says)
   room-accepted (listed p′ entries f h l e z) room = ap (λ (r : Reply). r .number) e
   room-accepted (full p′ f h e z) room = absurd (room (rw (sound-same _ f says) at h))
-  room-accepted (unmarked p′ f h e z) room = absurd (neither-never p′ h)

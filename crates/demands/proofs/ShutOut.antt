@@ -11,8 +11,7 @@ use Rattle.program.specs.Reply.{accepted}
 use Rattle.program.specs.Faults.{sound, faults}
 use Rattle.program.specs.declared.reply.Reply.{Reply}
 use Rattle.table.specs.Rules.{call, solution}
-use Rattle.table.proofs.Promise.{promise-unique}
-use Rattle.table.proofs.PromiseMet.{promise-met}
+use Rattle.table.proofs.Promise.{promise-unique, promise-met}
 use Rattle.runs.specs.Cover.{CoversRuns}
 use Rattle.runs.specs.TableRows.{StandsIn}
 use Rattle.demands.specs.Wrong.{Analysis, Keeps, AllRows, roundOf, maskOf, madeUp, refusing, constant, writingNothing, allInRoundOne, inventedCount, inventedRound, everythingAny}

@@ -14,12 +14,12 @@ use Rattle.program.specs.Reply.{badVariable, longAtom, done}
 use Rattle.program.proofs.ListLaws.{listed-decided}
 use Rattle.program.proofs.ShapeLaws.{member-decided}
 use Rattle.table.specs.Rules.{call}
-use Rattle.table.specs.Table.{roomIn, listed, full, faulty as by-fault}
+use Rattle.table.specs.Promise.{listed, full, faulty as by-fault}
+use Rattle.table.specs.Table.{roomIn}
 use Rattle.table.proofs.ModesComputed.{modes-lists}
-use Rattle.table.proofs.Sorting.{sort}
+use Rattle.table.proofs.Ordering.{sort}
 use Rattle.table.proofs.Samples.{legs, late}
-use Rattle.table.proofs.Promise.{more-than-length}
-use Rattle.table.proofs.PromiseMet.{rows, tableAt, computed-table}
+use Rattle.table.proofs.Promise.{more-than-length, tableAt, computed-table}
 use Rattle.table.proofs.TableSamples.{legs-entries, legs-table, late-entries, late-table}
 use Rattle.text.specs.Room.{inRoom}
 use Rattle.cells.specs.Table.{right}

@@ -7,18 +7,19 @@ use mathlib.Core.List.{List}
 use lib.ListN.{length, replicate}
 use Rattle.program.specs.Program.{Program}
 use Rattle.program.specs.Faults.{Found, fault, sound, faults}
-use Rattle.program.specs.Reply.{accepted, noRoom}
+use Rattle.program.specs.Reply.{accepted, noRoom, withdrawn}
 use Rattle.program.specs.declared.reply.Reply.{Reply}
-use Rattle.program.proofs.FaultNumbers.{fault-number}
-use Rattle.table.specs.Table.{Entry, roomIn, TableOf, MoreThan, Promise, faulty as by-fault, listed as by-table, full, unmarked}
-use Rattle.table.proofs.Promise.{table-once, fault-or-sound, sound-same, promise-unique, no-room-more, accepted-listed, refused-zeros, neither-never}
-use Rattle.table.proofs.PromiseMet.{promise-met}
+use Rattle.program.proofs.FaultNumbers.{FaultNumber, fault-number}
+use Rattle.table.specs.Promise.{faulty as by-fault, listed as by-table, full}
+use Rattle.table.specs.Table.{Entry, roomIn, TableOf, MoreThan, Promise}
+use Rattle.program.proofs.FoundLaws.{fault-or-sound, sound-same}
+use Rattle.table.proofs.Promise.{table-once, promise-unique, promise-met, no-room-more, accepted-listed, refused-zeros, never-withdrawn}
 use Rattle.cells.specs.Table.{right}
 use Rattle.cells.proofs.Readings.{wrong-or-right}
 use Rattle.lister.specs.Listing.{listingOf}
 use Rattle.lister.specs.Listed.{namesFor, Refused, Listed, faulty, misnamed, unlisted, over, listed}
 use Rattle.lister.proofs.ListedOnce.{listed-unique, listed-met}
-use Rattle.round_trips.proofs.ReadFaults.{FaultyBy, FaultNumber}
+use Rattle.round_trips.proofs.ReadFaults.{FaultyBy}
 use Rattle.round_trips.proofs.WriteFaults.{names-faults}
 use Rattle.demands.specs.Promises.{Analyses, AnalyseLarger, Lists, ListLarger}
 use Rattle.demands.specs.Replies.{Replies}
@@ -30,7 +31,7 @@ module _ (words : List ℕ) (size : ℕ) where
   analyse-room : (r : Reply) (t : List ℕ) → Promise words size r t → (r .number ≡ noRoom) ↔ AnalyseLarger words size
   analyse-room r t promised = found (faults words) refl
     where
-      found : (o : Found) → faults words ≡ o → (r .number ≡ noRoom) ↔ AnalyseLarger words size
+      found : (o : Found Program) → faults words ≡ o → (r .number ≡ noRoom) ↔ AnalyseLarger words size
       found (fault n q) e =
           let same = numbers (promise-unique words size _ _ _ _ promised (by-fault n q e refl refl) .0) in
           let h = fault-number words n q e in
@@ -52,6 +53,7 @@ module _ (words : List ℕ) (size : ℕ) where
         accepted-place = analyse-place r t promised;
         refused-zeros = λ n. let (z, c) = refused-zeros words size r t promised n in (c, z);
         no-room = analyse-room r t promised;
+        never-withdrawn = never-withdrawn words size r t promised;
       }
 
   -- a sound program is refused only where there is no room
@@ -59,7 +61,6 @@ module _ (words : List ℕ) (size : ℕ) where
   sound-refused p e r t (by-fault n q f d z) h = absurd (fault-or-sound _ f e)
   sound-refused p e r t (by-table p′ es f k l d z) h = absurd (h (numbers d))
   sound-refused p e r t (full p′ f k d z) h = numbers d
-  sound-refused p e r t (unmarked p′ f k d z) h = absurd (neither-never p′ k)
 
 module _ (words names : List ℕ) (size room : ℕ) where
   abbrev listZeros : List ℕ × List ℕ
@@ -70,18 +71,21 @@ module _ (words names : List ℕ) (size room : ℕ) where
     place : r .number ≡ accepted → r .place ≡ 0
     zeros : (r .number ≡ accepted → ⊥) → (r .count ≡ 0) × (t ≡ replicate size 0) × (o ≡ replicate room 0)
     room-is : (r .number ≡ noRoom) ↔ ListLarger words names size room
+    ten : r .number ≡ withdrawn → ⊥
 
-  refusal : {n q : ℕ} {r : Reply} {t o : List ℕ} → Refused size room n q r t o → (n ≡ accepted → ⊥) → (n ≡ noRoom) ↔ ListLarger words names size room → ListAnswer r t o
-  refusal z h (to, from) = record {
+  refusal : {n q : ℕ} {r : Reply} {t o : List ℕ} → Refused size room n q r t o → (n ≡ accepted → ⊥) → (n ≡ noRoom) ↔ ListLarger words names size room → (n ≡ withdrawn → ⊥)
+      → ListAnswer r t o
+  refusal z h (to, from) ten = record {
     place = λ d. absurd (h (sym (numbers (z .reply-is)) ∙ d));
     zeros = λ _. (ap (λ (r : Reply). r .count) (z .reply-is), z .table-zero, z .out-zero);
     room-is = (λ d. to (sym (numbers (z .reply-is)) ∙ d), λ l. numbers (z .reply-is) ∙ from l);
+    ten = λ d. ten (sym (numbers (z .reply-is)) ∙ d);
   }
 
   list-answer : (r : Reply) (t o : List ℕ) → Listed words names size room r t o → ListAnswer r t o
   list-answer r t o (faulty n q f z) =
-      let h = fault-number words n q f in refusal z (λ d. omega arith) (λ d. absurd (omega arith), λ (p, s, m, l). absurd (fault-or-sound _ f s))
-  list-answer r t o (misnamed p n q f w z) = refusal z (λ d. omega (arith, h .0)) (λ d. absurd (h .1 d), λ (p′, s, m, l). absurd (named p′ s m))
+      let h = fault-number words n q f in refusal z (λ d. omega arith) (λ d. absurd (omega arith), λ (p, s, m, l). absurd (fault-or-sound _ f s)) (h .2)
+  list-answer r t o (misnamed p n q f w z) = refusal z (λ d. omega (arith, h .0)) (λ d. absurd (h .1 d), λ (p′, s, m, l). absurd (named p′ s m)) (h .2)
     where
       h : FaultNumber n
       h = subst FaultyBy w (names-faults names (length (p .predicates)) (length (p .predicates) + length (p .functions)))
@@ -89,13 +93,14 @@ module _ (words names : List ℕ) (size room : ℕ) where
       named : (p′ : Program) → faults words ≡ sound p′ → namesFor p′ names ≡ right names → ⊥
       named p′ s m = wrong-or-right _ (rw (sound-same _ f s) at w) m
   list-answer r t o (unlisted p n q ze f w a d z) =
-      refusal z d (λ e. (p, f, w, inl (no-room-more words size _ ze p f a .0 e)), λ _. sound-refused words size p f _ ze a d)
+      refusal z d (λ e. (p, f, w, inl (no-room-more words size _ ze p f a .0 e)), λ _. sound-refused words size p f _ ze a d) (never-withdrawn words size _ ze a)
   list-answer r t o (over p es fu a l z) =
-      refusal z (λ d. omega arith) (λ _. (p, a .program, a .named, inr (es, a .rows, l)), λ _. refl)
+      refusal z (λ d. omega arith) (λ _. (p, a .program, a .named, inr (es, a .rows, l)), λ _. refl) (λ d. omega arith)
   list-answer r t o (listed p es a l e g) = record {
     place = λ _. ap (λ (r : Reply). r .place) e;
     zeros = λ n. absurd (n (numbers e));
     room-is = (λ d. absurd (let b : accepted ≡ noRoom = sym (numbers e) ∙ d in omega arith), λ (p′, s, m, x). absurd (larger p′ s x));
+    ten = λ d. absurd (let b : accepted ≡ withdrawn = sym (numbers e) ∙ d in omega arith);
   }
     where
       larger : (p′ : Program) → faults words ≡ sound p′
@@ -119,4 +124,5 @@ module _ (words names : List ℕ) (size room : ℕ) where
         accepted-place = all .place;
         refused-zeros = λ n. let (c, f, g) = all .zeros n in (c, λ i. (f i, g i));
         no-room = all .room-is;
+        never-withdrawn = all .ten;
       }

@@ -1,7 +1,7 @@
 -- Demand 1, "every input gets a reply", of a function on one input.
 use mathlib.Core.Path.{_≡_}
 use mathlib.Core.Logic.{_↔_}
-use Rattle.program.specs.Reply.{accepted, noRoom}
+use Rattle.program.specs.Reply.{accepted, noRoom, withdrawn}
 use Rattle.program.specs.declared.reply.Reply.{Reply}
 
 -- P is what the function promises of its reply and of the lent output, `zeros` is that output with zeros alone,
@@ -19,3 +19,5 @@ pub record Replies {Out : Type 0} (P : Reply → Out → Type 0) (zeros : Out) (
   pub refused-zeros : (reply .number ≡ accepted → ⊥) → (reply .count ≡ 0) × (left ≡ zeros)
   -- "'No room' exactly when the complete result is larger than the room."
   pub no-room : (reply .number ≡ noRoom) ↔ Larger
+  -- "10 is withdrawn, its number unused"
+  pub never-withdrawn : reply .number ≡ withdrawn → ⊥

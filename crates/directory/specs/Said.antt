@@ -7,7 +7,7 @@ use Rattle.program.specs.Program.{Program}
 use Rattle.program.specs.Faults.{Found, fault, sound, faults}
 
 -- the program found; where there is a fault, any
-abbrev pub programIn : Found → Program
+abbrev pub programIn : Found Program → Program
 programIn (fault number place) = record { predicates = []; functions = []; clauses = []; goal = var 0; ground = 0 }
 programIn (sound p) = p
 

@@ -26,7 +26,7 @@ use Rattle.table.specs.Steps.{opens, makes}
 use Rattle.table.specs.NewRows.{NewReached}
 use Rattle.table.proofs.NewRows.{new-reached}
 use Rattle.table.proofs.Added.{behind-keeps}
-use Rattle.table.proofs.Promise.{sound-same}
+use Rattle.program.proofs.FoundLaws.{sound-same}
 use Rattle.steps.specs.Steps.{RowsIn, Given, Stepped}
 use Rattle.steps.specs.Situation.{Setting, HeadAsked}
 use Rattle.steps.specs.Heads.{HeadMark, Marked, FoundOn}

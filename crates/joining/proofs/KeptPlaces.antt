@@ -23,7 +23,7 @@ use Rattle.directory.proofs.Cuts.{middle-part}
 use Rattle.rows.specs.Rows.{rowSize, slotAt, maskAt}
 use Rattle.rows.specs.MaskSet.{InSet}
 use Rattle.rows.proofs.MaskSets.{none-in-zeros}
-use Rattle.table.proofs.Promise.{sound-same}
+use Rattle.program.proofs.FoundLaws.{sound-same}
 use Rattle.steps.specs.Situation.{Setting, Situation, BodyOf, AtomRun}
 use Rattle.steps.specs.Steps.{Stepped}
 use Rattle.steps.proofs.BodyAtoms.{body-at, body-atom}

@@ -14,7 +14,7 @@ use Rattle.program.proofs.Nths.{nth-below, below-nth}
 use Rattle.directory.proofs.Cuts.{nth-take}
 use Rattle.table.specs.Rules.{Row, call, cont, solution}
 use Rattle.table.specs.Table.{Entry, rowSize, rowWords, entryWords, tableWords}
-use Rattle.table.proofs.Entries.{table-words-length}
+use Rattle.table.proofs.Promise.{table-words-length}
 use Rattle.steps.proofs.Meetings.{setting-within}
 use Rattle.written_lines.specs.Walked.{Named}
 use Rattle.writer.specs.Names.{namesReply}

@@ -9,9 +9,10 @@ use Rattle.program.specs.Program.{Program}
 use Rattle.program.specs.Faults.{Found, fault, sound, faults}
 use Rattle.program.specs.Reply.{accepted, noRoom, refused, done}
 use Rattle.program.specs.declared.reply.Reply.{Reply}
-use Rattle.table.specs.Table.{Entry, Promise, faulty as promise-faulty, listed as promise-listed, full, unmarked}
-use Rattle.table.proofs.Promise.{fault-or-sound, sound-same, table-once, promise-unique, neither-never}
-use Rattle.table.proofs.PromiseMet.{promise-met}
+use Rattle.table.specs.Promise.{faulty as promise-faulty, listed as promise-listed, full}
+use Rattle.table.specs.Table.{Entry, Promise}
+use Rattle.program.proofs.FoundLaws.{fault-or-sound, sound-same}
+use Rattle.table.proofs.Promise.{table-once, promise-unique, promise-met}
 use Rattle.text.specs.Room.{inRoom}
 use Rattle.writer.specs.Names.{namesReply}
 use Rattle.writer.proofs.Answers.{names-right}
@@ -104,12 +105,11 @@ module _ (words names : List ℕ) (size room : ℕ) where
       analysed p f n r t (promise-listed p′ entries f′ h l e z) =
           fits p′ entries t (record { program = f′; named = rw (sound-same _ f f′) at n; rows = h; analysed = promise-listed p′ entries f′ h l refl z }) (decLe (length (listingOf p′ names entries)) room)
       analysed p f n r t (full p′ f′ h e z) = (_, _, _, unlisted p _ _ t f n (full p′ f′ h refl z) (λ d. omega arith) (zeros _ _))
-      analysed p f n r t (unmarked p′ f′ h e z) = absurd (neither-never p′ h)
 
       named : (p : Program) → faults words ≡ sound p → (x : Read (List ℕ)) → namesFor p names ≡ x → Met
       named p f (wrong number place) w = (_, _, _, misnamed p number place f w (zeros number place))
       named p f (right ns) w = let (r, t, a) = promise-met words size in analysed p f (names-right names _ _ (ap (λ x. namesReply x .number) w)) r t a
 
-      found : (f : Found) → faults words ≡ f → Met
+      found : (f : Found Program) → faults words ≡ f → Met
       found (fault number place) f = (_, _, _, faulty number place f (zeros number place))
       found (sound p) f = named p f (namesFor p names) refl

@@ -11,9 +11,11 @@ use Rattle.program.specs.declared.reply.Reply.{Reply}
 use Rattle.program.proofs.ProgramWords.{sound-within}
 use Rattle.directory.proofs.AcceptedWords.{said-is, first-three, predicate-count, function-count}
 use Rattle.directory.specs.Directory.{Directory}
-use Rattle.table.specs.Table.{Entry, rowSize, tableWords, Promise, faulty, listed, full, unmarked}
+use Rattle.table.specs.Promise.{faulty, listed, full}
+use Rattle.table.specs.Table.{Entry, rowSize, tableWords, Promise}
 use Rattle.table.specs.Keys.{Regular}
-use Rattle.table.proofs.Promise.{fault-or-sound, sound-same, table-once, neither-never, accepted-listed, refused-zeros}
+use Rattle.program.proofs.FoundLaws.{fault-or-sound, sound-same}
+use Rattle.table.proofs.Promise.{table-once, accepted-listed, refused-zeros}
 use Rattle.table.proofs.Regular.{at-regular}
 use Rattle.text.specs.Name.{maxNames}
 use Rattle.cells.specs.Table.{Read, wrong, right}
@@ -27,7 +29,7 @@ module _ (words : List ℕ) (r : Reply) (is : r ≡ replyOf (faults words)) wher
   pub scan-faulty : (r .number ≡ accepted → ⊥) → faults words ≡ fault (r .number) (r .place)
   scan-faulty d = at (faults words) refl
     where
-      at : (f : Found) → faults words ≡ f → faults words ≡ fault (r .number) (r .place)
+      at : (f : Found Program) → faults words ≡ f → faults words ≡ fault (r .number) (r .place)
       at (fault number place) e = rw (is ∙ ap replyOf e) e
       at (sound p) e = absurd (d (ap (λ (x : Reply). x .number) (is ∙ ap replyOf e)))
 
@@ -89,7 +91,6 @@ module _ {words names : List ℕ} {size : ℕ} {table : List ℕ} {p : Program} 
           let same = table-once p entries es (w .rows) (rw (sound-same _ f (w .program)) at t) in
           z ∙ ap (λ (l : List Entry). tableWords l ++ replicate (size - rowSize * length l) 0) (sym same)
       by (full q f m e z) = absurd (let n : accepted ≡ noRoom = ap (λ (x : Reply). x .number) e in omega arith)
-      by (unmarked q f c e z) = absurd (neither-never q c)
 
   pub rows-regular : (e : Entry) → List·Memᴰ e entries → Regular p (e .row)
   rows-regular e m = at-regular words p (w .program) (e .round) (e .row) (w .rows .only e m .0)

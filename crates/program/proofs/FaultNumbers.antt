@@ -1,5 +1,5 @@
--- The faults of an encoded program have the numbers 1 to 8, so that a reply of number 0 is a program's, and 9 and 10 are the analysis' own.
-use Prim.Native.Nat.{ℕ, zero, suc, _+_, _-_, _≤_}
+-- The numbers of the faults of an encoded program: neither 0 nor 9, so that a reply of number 0 is a program's, and 9 the analysis' own; nor 10, which is withdrawn.
+use Prim.Native.Nat.{ℕ, zero, suc, _+_, _-_, _<_}
 use native.Mathlib.Omega.{arith}
 use mathlib.Core.Path.{_≡_, refl, ap, _∙_}
 use mathlib.Core.List.{List, [], _∷_}
@@ -8,7 +8,7 @@ use lib.Dec.{ltb, leb}
 use Rattle.terms.specs.Term.{Terms}
 use Rattle.terms.specs.Cells.{firstVariable, atomCells}
 use Rattle.program.specs.Limits.{maxWords, maxVariable, minPredicates, maxDeclared, maxArity, maxBody, anyMode, groundMode}
-use Rattle.program.specs.Reply.{outOfRange, badGoal, badVariable, longAtom, undeclared, tooLong}
+use Rattle.program.specs.Reply.{outOfRange, badGoal, badVariable, longAtom, undeclared, tooLong, noRoom, withdrawn}
 use Rattle.program.specs.Reading.{Read, wrong, right, next, pick, bounded, several}
 use Rattle.program.specs.Atoms.{meet, variableOf, symbolOf, cellOf, opened, terms, atom, atoms}
 use Rattle.program.specs.Program.{Program}
@@ -18,9 +18,9 @@ use Rattle.program.specs.declared.cells.Cell.{Cell}
 use Rattle.program.specs.declared.cells.Cell.the-variants.{Bad, Opens}
 use Rattle.program.proofs.Taking.{pick-cases}
 
--- a fault of an encoded program
+-- the number of a fault of the input, a program or a text
 abbrev pub FaultNumber : ℕ → Type 0
-FaultNumber n = (1 ≤ n) × (n ≤ 8)
+FaultNumber number = (0 < number) × (number ≡ noRoom → ⊥) × (number ≡ withdrawn → ⊥)
 
 -- the fault, where there is one, has such a number
 abbrev pub FaultyBy : {A : Type 0} → Read A → Type 0
@@ -33,7 +33,7 @@ faulty-next (right a rest) f h g = g a rest
 
 faulty-bounded : (number low high : ℕ) → FaultNumber number → (ws : List ℕ) → FaultyBy (bounded number low high ws)
 unfolding bounded
-faulty-bounded number low high n [] = (omega arith, omega arith)
+faulty-bounded number low high n [] = (omega arith)
 faulty-bounded number low high n (w ∷ ws) =
     pick-cases FaultyBy (leb low w) (pick (leb w high) (right w ws) (wrong number (w ∷ ws))) (wrong number (w ∷ ws))
     (λ _. pick-cases FaultyBy (leb w high) (right w ws) (wrong number (w ∷ ws)) (λ _. tt) (λ _. n))
@@ -57,12 +57,12 @@ faulty-cell functions taken seen w =
     (λ _. pick-cases CellFault (ltb w firstVariable)
     (pick (ltb w (length functions)) (Opens (getD functions w 0) seen) (Bad undeclared))
     (variableOf seen (w - firstVariable))
-    (λ _. pick-cases CellFault (ltb w (length functions)) (Opens (getD functions w 0) seen) (Bad undeclared) (λ _. tt) (λ _. (omega arith, omega arith)))
+    (λ _. pick-cases CellFault (ltb w (length functions)) (Opens (getD functions w 0) seen) (Bad undeclared) (λ _. tt) (λ _. (omega arith)))
     (λ _. pick-cases CellFault (ltb maxVariable (w - firstVariable)) (Bad badVariable)
     (pick (ltb seen (w - firstVariable)) (Bad badVariable) (Opens 0 (meet seen (w - firstVariable))))
-    (λ _. (omega arith, omega arith))
-    (λ _. pick-cases CellFault (ltb seen (w - firstVariable)) (Bad badVariable) (Opens 0 (meet seen (w - firstVariable))) (λ _. (omega arith, omega arith)) (λ _. tt))))
-    (λ _. (omega arith, omega arith))
+    (λ _. (omega arith))
+    (λ _. pick-cases CellFault (ltb seen (w - firstVariable)) (Bad badVariable) (Opens 0 (meet seen (w - firstVariable))) (λ _. (omega arith)) (λ _. tt))))
+    (λ _. (omega arith))
 
 faulty-opened : (cell : Cell) (w : ℕ) (ws : List ℕ) (read : ℕ → ℕ → Read (Terms × ℕ)) → CellFault cell → ((arity seen : ℕ) → FaultyBy (read arity seen)) → FaultyBy (opened cell w ws read)
 faulty-opened (Bad number) w ws read h g = h
@@ -71,7 +71,7 @@ faulty-opened (Opens arity seen) w ws read h g = faulty-next (read arity seen) _
 faulty-terms : (functions ws : List ℕ) (n taken seen : ℕ) → FaultyBy (terms functions ws n taken seen)
 unfolding terms
 faulty-terms functions [] zero taken seen = tt
-faulty-terms functions [] (suc n) taken seen = (omega arith, omega arith)
+faulty-terms functions [] (suc n) taken seen = (omega arith)
 faulty-terms functions (w ∷ ws) zero taken seen = tt
 faulty-terms functions (w ∷ ws) (suc n) taken seen =
     faulty-opened (cellOf functions taken seen w) w ws (λ arity met. terms functions ws (arity + n) (suc taken) met)
@@ -79,11 +79,11 @@ faulty-terms functions (w ∷ ws) (suc n) taken seen =
 
 faulty-atom : (predicates functions : List ℕ) (seen : ℕ) (ws : List ℕ) → FaultyBy (atom predicates functions seen ws)
 unfolding atom
-faulty-atom predicates functions seen [] = (omega arith, omega arith)
+faulty-atom predicates functions seen [] = (omega arith)
 faulty-atom predicates functions seen (w ∷ ws) =
     pick-cases FaultyBy (ltb w (length predicates)) (next (terms functions ws (getD predicates w 0) 1 seen) _) (wrong undeclared (w ∷ ws))
     (λ _. faulty-next (terms functions ws (getD predicates w 0) 1 seen) _ (faulty-terms functions ws (getD predicates w 0) 1 seen) (λ _ _. tt))
-    (λ _. (omega arith, omega arith))
+    (λ _. (omega arith))
 
 faulty-atoms : (predicates functions : List ℕ) (n seen : ℕ) (ws : List ℕ) → FaultyBy (atoms predicates functions n seen ws)
 unfolding atoms
@@ -95,7 +95,7 @@ faulty-atoms predicates functions (suc n) seen ws =
 faulty-clause : (predicates functions ws : List ℕ) → FaultyBy (clause predicates functions ws)
 unfolding clause
 faulty-clause predicates functions ws =
-    faulty-next (bounded outOfRange 0 maxBody ws) _ (faulty-bounded outOfRange 0 maxBody (omega arith, omega arith) ws)
+    faulty-next (bounded outOfRange 0 maxBody ws) _ (faulty-bounded outOfRange 0 maxBody (omega arith) ws)
     (λ m rest. faulty-next (atom predicates functions 0 rest) _ (faulty-atom predicates functions 0 rest)
     (λ h rest′. faulty-next (atoms predicates functions m (h .1) rest′) _ (faulty-atoms predicates functions m (h .1) rest′) (λ _ _. tt)))
 
@@ -103,9 +103,9 @@ faulty-goal : (predicates functions ws : List ℕ) → FaultyBy (goal predicates
 unfolding goal
 faulty-goal predicates functions ws =
     faulty-next (atom predicates functions 0 ws) _ (faulty-atom predicates functions 0 ws)
-    (λ a rest. faulty-next (bounded badGoal (a .1) (a .1) rest) _ (faulty-bounded badGoal (a .1) (a .1) (omega arith, omega arith) rest)
+    (λ a rest. faulty-next (bounded badGoal (a .1) (a .1) rest) _ (faulty-bounded badGoal (a .1) (a .1) (omega arith) rest)
     (λ k rest′. faulty-next (several (bounded badGoal anyMode groundMode) k rest′) _
-    (faulty-several (bounded badGoal anyMode groundMode) (faulty-bounded badGoal anyMode groundMode (omega arith, omega arith)) k rest′) (λ _ _. tt)))
+    (faulty-several (bounded badGoal anyMode groundMode) (faulty-bounded badGoal anyMode groundMode (omega arith)) k rest′) (λ _ _. tt)))
 
 faulty-written : (predicates functions : List ℕ) (n : ℕ) (ws : List ℕ) → FaultyBy (written predicates functions n ws)
 unfolding written
@@ -115,28 +115,28 @@ faulty-written predicates functions n ws =
   where
     at : (p : Program) (rest : List ℕ) → FaultyBy (ended p rest)
     at p [] = tt
-    at p (w ∷ rest) = (omega arith, omega arith)
+    at p (w ∷ rest) = (omega arith)
 
 faulty-arities : (n : ℕ) (ws : List ℕ) → FaultyBy (arities n ws)
-faulty-arities = faulty-several (bounded outOfRange 0 maxArity) (faulty-bounded outOfRange 0 maxArity (omega arith, omega arith))
+faulty-arities = faulty-several (bounded outOfRange 0 maxArity) (faulty-bounded outOfRange 0 maxArity (omega arith))
 
 faulty-whole : (ws : List ℕ) → FaultyBy (whole ws)
 unfolding whole declared
 faulty-whole ws =
-    faulty-next (bounded outOfRange minPredicates maxDeclared ws) _ (faulty-bounded outOfRange minPredicates maxDeclared (omega arith, omega arith) ws)
-    (λ p rest. faulty-next (bounded outOfRange 0 maxDeclared rest) _ (faulty-bounded outOfRange 0 maxDeclared (omega arith, omega arith) rest)
-    (λ f rest′. faulty-next (bounded outOfRange 0 maxDeclared rest′) _ (faulty-bounded outOfRange 0 maxDeclared (omega arith, omega arith) rest′)
+    faulty-next (bounded outOfRange minPredicates maxDeclared ws) _ (faulty-bounded outOfRange minPredicates maxDeclared (omega arith) ws)
+    (λ p rest. faulty-next (bounded outOfRange 0 maxDeclared rest) _ (faulty-bounded outOfRange 0 maxDeclared (omega arith) rest)
+    (λ f rest′. faulty-next (bounded outOfRange 0 maxDeclared rest′) _ (faulty-bounded outOfRange 0 maxDeclared (omega arith) rest′)
     (λ c rest″. faulty-next (arities p rest″) _ (faulty-arities p rest″)
     (λ ps r. faulty-next (arities f r) _ (faulty-arities f r) (λ fs r′. faulty-written ps fs c r′)))))
 
-abbrev FoundFault : Found → Type 0
+abbrev FoundFault : Found Program → Type 0
 FoundFault (fault number place) = FaultNumber number
 FoundFault (sound p) = Unit {0}
 
 found-fault : (ws : List ℕ) → FoundFault (faults ws)
 unfolding faults
 found-fault ws =
-    pick-cases FoundFault (ltb maxWords (length ws)) (fault tooLong maxWords) (foundIn ws (whole ws)) (λ _. (omega arith, omega arith)) (λ _. at (whole ws) (faulty-whole ws))
+    pick-cases FoundFault (ltb maxWords (length ws)) (fault tooLong maxWords) (foundIn ws (whole ws)) (λ _. (omega arith)) (λ _. at (whole ws) (faulty-whole ws))
   where
     at : (r : Read Program) → FaultyBy r → FoundFault (foundIn ws r)
     at (wrong number rest) h = h
@@ -149,7 +149,7 @@ fault-number ws number place e = rw e at (found-fault ws)
 pub accepted-sound : (words : List ℕ) (r : Reply) → r ≡ replyOf (faults words) → r .number ≡ 0 → (p : Program) × (faults words ≡ sound p)
 accepted-sound words r is z = at (faults words) refl
   where
-    at : (f : Found) → faults words ≡ f → (p : Program) × (faults words ≡ sound p)
+    at : (f : Found Program) → faults words ≡ f → (p : Program) × (faults words ≡ sound p)
     at (sound p) e = (p, e)
     at (fault number place) e =
         let n : r .number ≡ number = ap (λ (x : Reply). x .number) (is ∙ ap replyOf e) in

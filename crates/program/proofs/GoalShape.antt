@@ -134,7 +134,7 @@ whole-own ws =
     (λ c rest″. gets-after _ (arities p rest″) _ (λ ps r. gets-after _ (arities f r) _ (λ fs r′. written-own ps fs c r′)))))
 
 -- every accepted program
-abbrev pub Accepts : (Program → Type 0) → Found → Type 0
+abbrev pub Accepts : (Program → Type 0) → Found Program → Type 0
 Accepts P (fault number place) = Unit {0}
 Accepts P (sound p) = P p
 

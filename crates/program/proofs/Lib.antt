@@ -19,5 +19,6 @@ pub mod Modes
 pub mod ClauseWords
 pub mod ProgramWords
 pub mod FaultNumbers
+pub mod FoundLaws
 pub mod Once
 pub mod ShapeOrder

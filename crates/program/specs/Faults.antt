@@ -59,21 +59,21 @@ whole ws =
     (λ f rest′. next (bounded outOfRange 0 maxDeclared rest′)
     (λ c rest″. declared p f c rest″)))
 
--- what is found in words: a fault's number and place, or a program
-pub data Found : Type 0 where
-  fault : ℕ → ℕ → Found
-  sound : Program → Found
+-- what is found in an input: a fault's number and place, or what it says
+pub data Found (A : Type 0) : Type 0 where
+  fault : ℕ → ℕ → Found A
+  sound : A → Found A
 
 -- "Places are word indexes for programs": a place is the number of words before it
-abbrev pub foundIn : List ℕ → Read Program → Found
+abbrev pub foundIn : List ℕ → Read Program → Found Program
 foundIn ws (wrong number rest) = fault number (length ws - length rest)
 foundIn ws (right p rest) = sound p
 
 -- "The length comes first (8), then faults from left to right"
-unfoldable pub faults : List ℕ → Found
+unfoldable pub faults : List ℕ → Found Program
 faults ws = pick (ltb maxWords (length ws)) (fault tooLong maxWords) (foundIn ws (whole ws))
 
 -- the reply of the scan alone: nothing is written
-abbrev pub replyOf : Found → Reply
+abbrev pub replyOf : Found Program → Reply
 replyOf (fault number place) = refused number place
 replyOf (sound p) = done 0

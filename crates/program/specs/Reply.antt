@@ -42,9 +42,9 @@ tooLong = 8
 abbrev pub noRoom : ℕ
 noRoom = 9
 
--- "a mark comes out neither any nor ground"
-abbrev pub neither : ℕ
-neither = 10
+-- "10 is withdrawn, its number unused"
+abbrev pub withdrawn : ℕ
+withdrawn = 10
 
 -- "the text's line or token has a wrong form"
 abbrev pub illFormed : ℕ

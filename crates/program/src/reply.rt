@@ -26,8 +26,6 @@ pub const TOO_LONG: u16 = 8;
 
 pub const NO_ROOM: u16 = 9;
 
-pub const NEITHER: u16 = 10;
-
 pub const ILL_FORMED: u16 = 11;
 
 pub const BAD_NAME: u16 = 12;

@@ -1,5 +1,5 @@
--- The numbers of the reader's faults: neither 0 nor 9, so that a reply with number 0 is an accepted text's, and one with number 9 says that there is no room.
-use Prim.Native.Nat.{ℕ, _+_, _-_, _<_}
+-- The numbers of the reader's faults: neither 0 nor 9, so that a reply with number 0 is an accepted text's, and one with number 9 says that there is no room; nor 10, which is withdrawn.
+use Prim.Native.Nat.{ℕ, _+_, _-_}
 use native.Mathlib.Omega.{arith}
 use mathlib.Core.Path.{_≡_, refl}
 use mathlib.Core.Bool.{Bool, true, false, cond, _&&_}
@@ -9,6 +9,7 @@ use lib.Dec.{eqb, ltb, leb}
 use Rattle.terms.specs.Cells.{atomCells}
 use Rattle.program.specs.Limits.{maxDeclared, maxArity, maxBody, maxVariable, maxWords}
 use Rattle.program.specs.Reply.{accepted, noRoom, outOfRange, undeclared}
+use Rattle.program.proofs.FaultNumbers.{FaultNumber}
 use Rattle.text.specs.Line.{parts, tab, lineFeed}
 use Rattle.text.specs.Name.{padded, seek}
 use Rattle.text.specs.Token.{tokenOf, numberOf}
@@ -29,10 +30,6 @@ use Rattle.cells.specs.Cells.{Row, modeOf, noCells, namedOf, variableAt, startO
 use Rattle.text_lines.specs.Lines.{withClause, withGoal, clauseLine, queryLine, lineOf, fieldsOf, ending, linesOf, allLines}
 use Rattle.reader.specs.Read.{maxBytes, counted, readOf, inRooms, answerOf, replyOf}
 use Rattle.reader.proofs.TextLines.{afterLine, linesOf-more}
-
--- the number of a fault of the input
-abbrev pub FaultNumber : ℕ → Type 0
-FaultNumber number = (0 < number) × (number ≡ noRoom → ⊥)
 
 abbrev pub FaultyBy : {A : Type 0} → Read A → Type 0
 FaultyBy (wrong number place) = FaultNumber number

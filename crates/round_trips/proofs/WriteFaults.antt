@@ -1,4 +1,4 @@
--- The numbers of the writer's faults: neither 0 nor 9, so that a reply with number 0 is that of a text that was written, and one with number 9 says that there is no room.
+-- The numbers of the writer's faults: neither 0 nor 9, so that a reply with number 0 is that of a text that was written, and one with number 9 says that there is no room; nor 10, which is withdrawn.
 use Prim.Native.Nat.{ℕ, zero, suc, _+_, _*_}
 use native.Mathlib.Omega.{arith}
 use mathlib.Core.Path.{_≡_, refl}
@@ -7,6 +7,7 @@ use mathlib.Core.List.{List}
 use lib.ListN.{length}
 use lib.Dec.{ltb}
 use Rattle.program.specs.Reply.{accepted, noRoom}
+use Rattle.program.specs.Program.{Program}
 use Rattle.program.specs.Faults.{Found, fault, sound, faults}
 use Rattle.program.proofs.FaultNumbers.{fault-number}
 use Rattle.text.specs.Name.{nameBytes}
@@ -28,8 +29,8 @@ pub write-faults : (words names : List ℕ) → FaultyBy (writeOf words names)
 unfolding writeOf
 write-faults words names = found (faults words) refl
   where
-    found : (o : Found) → faults words ≡ o → FaultyBy (written names o)
-    found (fault number place) e = let n = fault-number words number place e in (omega arith, λ nine. omega arith)
+    found : (o : Found Program) → faults words ≡ o → FaultyBy (written names o)
+    found (fault number place) e = fault-number words number place e
     found (sound p) e =
         next-faults (namesOf names (length (p .predicates)) (length (p .predicates) + length (p .functions))) (λ ns. right (textOf p ns))
         (names-faults names (length (p .predicates)) (length (p .predicates) + length (p .functions))) (λ ns. tt)

@@ -44,7 +44,7 @@ pub write-written : (words names text : List ℕ) → writeOf words names ≡ ri
 unfolding writeOf
 write-written words names text e = found (faults words) refl e
   where
-    found : (o : Found) → faults words ≡ o → written names o ≡ right text → Written words names text
+    found : (o : Found Program) → faults words ≡ o → written names o ≡ right text → Written words names text
     found (fault number place) f q = let z : _≡_ {A = ℕ} 0 1 = cc in absurd (omega arith)
     found (sound p) f q =
         let ns = next-right (namesOf names (length (p .predicates)) (length (p .predicates) + length (p .functions))) (λ ns. right (textOf p ns)) text q in

@@ -23,7 +23,8 @@ use Rattle.table.specs.Added.{Behind, Plus, Full}
 use Rattle.table.specs.NewRows.{Earlier, NewReached, new-on-head, NewGives}
 use Rattle.table.specs.Steps.{on-head}
 use Rattle.table.specs.RoundKeys.{Keyed, RoundKeys, Looked}
-use Rattle.table.proofs.RuleLaws.{Within, reached-within, gives-within}
+use Rattle.table.proofs.RulesOf.{Within}
+use Rattle.table.proofs.RuleLaws.{reached-within, gives-within}
 use Rattle.table.proofs.NewRows.{round-covered}
 use Rattle.table.proofs.ComputedLaws.{at-decided}
 use Rattle.table.proofs.ModesComputed.{modes-lists}

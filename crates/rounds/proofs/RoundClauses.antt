@@ -15,7 +15,7 @@ use Rattle.table.specs.Added.{Below}
 use Rattle.table.specs.NewRows.{New, NewIn, NewGives}
 use Rattle.table.specs.RoundKeys.{Keyed}
 use Rattle.table.proofs.Looking.{by-clauses}
-use Rattle.table.proofs.Promise.{sound-same}
+use Rattle.program.proofs.FoundLaws.{sound-same}
 use Rattle.steps.specs.Steps.{RowsIn, Writable, Grew, Stepped}
 use Rattle.steps.specs.Situation.{Situation, HeadAsked}
 use Rattle.concerns.specs.Active.{Concerns}

@@ -5,7 +5,7 @@ use Rattle.program.specs.Program.{Program}
 use Rattle.program.specs.Shapes.{shapeOf}
 use Rattle.table.specs.Rules.{Row}
 use Rattle.table.specs.Rounds.{Least, Appears}
-use Rattle.table.proofs.RuleLaws.{Within}
+use Rattle.table.proofs.RulesOf.{Within}
 use Rattle.table.proofs.RoundLaws.{appears-closed, least-appears}
 use Rattle.runs.specs.Cover.{CoversRuns}
 use Rattle.runs.proofs.Covering.{closed-covers-runs}

@@ -13,8 +13,7 @@ use Rattle.table.specs.Rules.{Row, call, cont, solution}
 use Rattle.table.specs.Rounds.{Least}
 use Rattle.table.specs.Table.{Entry, rowSize, rowWords, tableWords, TableOf, Promise}
 use Rattle.table.proofs.RoundLaws.{least-appears}
-use Rattle.table.proofs.Sorting.{row-words-same}
-use Rattle.table.proofs.Promise.{appears-first, accepted-table}
+use Rattle.table.proofs.Promise.{row-words-same, appears-first, accepted-table}
 use Rattle.runs.specs.TableRows.{StandsIn, Trusted}
 use Rattle.runs.proofs.TableCovers.{covers-within}
 use Rattle.runs.proofs.AcceptedRuns.{accepted-covers-runs, accepted-ground-at-calls}

@@ -10,7 +10,8 @@ use Rattle.program.specs.Program.{Clause, Program}
 use Rattle.program.specs.Shapes.{shapes, shapeNumber, number, Listed}
 use Rattle.program.proofs.ListLaws.{listed-decided}
 use Rattle.table.specs.Rules.{Row, call, cont, solution, Row-discrete}
-use Rattle.table.proofs.Lists.{each, at, places, behind}
+use Rattle.table.proofs.Lists.{each, at, places}
+use Rattle.table.proofs.ComputedRounds.{rowsIn}
 
 -- a domain of marks whose results can be listed, all of them and no other
 pub record Lists (D : Domain) : Type 1 where
@@ -83,11 +84,6 @@ module _ (D : Domain) (lists : Lists D) (p : Program) where
   abbrev pub given : List (Row (D .Mark)) → List (Row (D .Mark))
   given rows = each (arrivals rows) (leads rows)
 
-  -- one round more
-  abbrev pub grown : List (Row (D .Mark)) → List (Row (D .Mark))
-  grown rows = behind (Row-discrete ℕ-discrete (lists .same)) rows (given rows)
-
   -- the rows of round k
   abbrev pub rowsAt : D .Mark → ℕ → List (Row (D .Mark))
-  rowsAt goal zero = call 0 goal ∷ []
-  rowsAt goal (suc k) = grown (rowsAt goal k)
+  rowsAt goal = rowsIn (Row-discrete ℕ-discrete (lists .same)) (call 0 goal) given

@@ -1,24 +1,21 @@
--- The computed rounds are the rounds.
-use Prim.Native.Nat.{ℕ, zero, suc}
+-- What is computed is what the rules give, so that the computed rounds are the rounds (`ComputedRounds`).
+use Prim.Native.Nat.{ℕ, suc}
 use native.Mathlib.Decide.{ℕ-discrete}
-use native.Mathlib.Omega.{arith}
-use mathlib.Core.Path.{_≡_, refl, subst}
+use mathlib.Core.Path.{_≡_, refl}
 use mathlib.Core.Logic.{_⊎_, inl, inr, _↔_}
-use mathlib.Core.List.{List, [], _++_, map, List·Memᴰ, List·Memᴰ·head, List·Memᴰ·eq-of-singleton, List·Memᴰ·append-cases, Memᴰ·append-left, Memᴰ·append-right, Memᴰ·map}
+use mathlib.Core.List.{List, [], _++_, map, List·Memᴰ, List·Memᴰ·append-cases, Memᴰ·append-left, Memᴰ·append-right, Memᴰ·map}
 use lib.ListN.{length}
 use Rattle.terms.specs.Term.{Term}
-use Rattle.terms.proofs.Variables.{decided-for}
 use Rattle.marks.specs.Domain.{Domain}
 use Rattle.program.specs.Program.{Nth, Clause, Program}
 use Rattle.program.specs.Shapes.{shapes, shapeNumber, number, Listed}
-use Rattle.program.proofs.ShapeLaws.{member-decided}
 use Rattle.program.proofs.ListLaws.{listed-decided}
 use Rattle.table.specs.Rules.{Row, call, cont, solution, Row-discrete, Reached, first, next, Gives, calls, conts, solves}
-use Rattle.table.specs.Rounds.{At, First, Least}
-use Rattle.table.proofs.Lists.{each, each-has, has-each, has-map, at, at-has, has-at, places, places-has, behind-keeps, behind-has, has-behind}
-use Rattle.table.proofs.Computed.{Lists, onCall, onCont, onSolution, Arrival, firsts, nexts, arrivals, goes, ends, leads, given, grown, rowsAt}
-use Rattle.table.proofs.RuleLaws.{Within, gives-within}
-use Rattle.table.proofs.RoundLaws.{rounds-grow, least-at}
+use Rattle.table.specs.Rounds.{At, Least}
+use Rattle.table.proofs.Lists.{each, each-has, has-each, has-map, at, at-has, has-at, places, places-has}
+use Rattle.table.proofs.Computed.{Lists, onCall, onCont, onSolution, Arrival, firsts, nexts, arrivals, goes, ends, leads, given, rowsAt}
+use Rattle.table.proofs.RuleLaws.{gives-finitary}
+use Rattle.table.proofs.ComputedRounds.{decided-in, computed-least-of}
 
 module _ {Mark B : Type 0} (rows : List (Row Mark)) where
   pub has-onCall : (f : ℕ → Mark → List B) {b : B} → List·Memᴰ b (each rows (onCall f)) → (s : ℕ) × (M : Mark) × List·Memᴰ (call s M) rows × List·Memᴰ b (f s M)
@@ -173,39 +170,15 @@ module _ (D : Domain) (lists : Lists D) (p : Program) (rows : List (Row (D .Mark
           (each-has (at (shapes p) s) _ (at-has hs) (Memᴰ·map (solution s) (lists .passes-all (c .head) N S C R .1 passed)))
       ended (no ne) = absurd (ne refl)
 
+pub given-all : (D : Domain) (lists : Lists D) (p : Program) (rows : List (Row (D .Mark))) (row : Row (D .Mark))
+    → List·Memᴰ row (given D lists p rows) ↔ Gives D p (λ r. List·Memᴰ r rows) row
+given-all D lists p rows row = (given-gives D lists p rows row, gives-given D lists p rows row)
+
 module _ (D : Domain) (lists : Lists D) (p : Program) (goal : D .Mark) where
-  abbrev pub same-row : Discrete (Row (D .Mark))
-  same-row = Row-discrete ℕ-discrete (lists .same)
-
-  -- a list that has the rows of a set, one round more: the set with all that the rules give from it
-  pub grown-has : (rows : List (Row (D .Mark))) (T : Row (D .Mark) → Type 0) → ((row : Row (D .Mark)) → List·Memᴰ row rows ↔ T row)
-      → (row : Row (D .Mark)) → List·Memᴰ row (grown D lists p rows) ↔ (T row ⊎ Gives D p T row)
-  grown-has rows T lists-all row = (λ m. to (has-behind same-row (given D lists p rows) rows row m), from)
-    where
-      to : List·Memᴰ row rows ⊎ List·Memᴰ row (given D lists p rows) → T row ⊎ Gives D p T row
-      to (inl m) = inl (lists-all row .0 m)
-      to (inr m) = inr (gives-within D p (λ r. List·Memᴰ r rows) T (λ r. lists-all r .0) row (given-gives D lists p rows row m))
-
-      from : T row ⊎ Gives D p T row → List·Memᴰ row (grown D lists p rows)
-      from (inl r) = behind-keeps same-row (given D lists p rows) rows row (lists-all row .1 r)
-      from (inr g) = behind-has same-row (given D lists p rows) rows row (gives-given D lists p rows row (gives-within D p T (λ r. List·Memᴰ r rows) (λ r. lists-all r .1) row g))
-
-  -- the rows computed for round k are the rows of round k
-  pub computed-at : (k : ℕ) (row : Row (D .Mark)) → List·Memᴰ row (rowsAt D lists p goal k) ↔ At D p goal k row
-  computed-at zero row = (List·Memᴰ·eq-of-singleton, List·Memᴰ·head)
-  computed-at (suc k) row = grown-has (rowsAt D lists p goal k) (At D p goal k) (computed-at k) row
-
-  -- so it is decided whether a row is in a round
+  -- it is decided whether a row is in a round
   pub at-decided : (k : ℕ) (row : Row (D .Mark)) → Dec (At D p goal k row)
-  at-decided k row = decided-for (computed-at k row .0) (computed-at k row .1) (member-decided same-row row (rowsAt D lists p goal k))
+  at-decided = decided-in (Row-discrete ℕ-discrete (lists .same)) (call 0 goal) (given D lists p) (Gives D p) (gives-finitary D p) (given-all D lists p)
 
   -- where a round computes to the one before, its rows are the least set
   pub computed-least : (k : ℕ) → rowsAt D lists p goal (suc k) ≡ rowsAt D lists p goal k → (row : Row (D .Mark)) → Least D p goal row ↔ List·Memᴰ row (rowsAt D lists p goal k)
-  computed-least k e row = let l = least-at D p goal k stop row in (λ least. computed-at k row .1 (l .0 least), λ m. l .1 (computed-at k row .0 m))
-    where
-      stop : Within (At D p goal (suc k)) (At D p goal k)
-      stop r a = computed-at k r .0 (subst (List·Memᴰ r) e (computed-at (suc k) r .1 a))
-
-  -- a row is first in the round whose list has it and the list before has not
-  pub computed-first : (k : ℕ) (row : Row (D .Mark)) → List·Memᴰ row (rowsAt D lists p goal (suc k)) → (List·Memᴰ row (rowsAt D lists p goal k) → ⊥) → First D p goal (suc k) row
-  computed-first k row m nm = (computed-at (suc k) row .0 m, λ j l r. nm (computed-at k row .1 (rounds-grow D p goal k j (omega arith) row r)))
+  computed-least = computed-least-of (Row-discrete ℕ-discrete (lists .same)) (call 0 goal) (given D lists p) (Gives D p) (gives-finitary D p) (given-all D lists p)

@@ -13,7 +13,7 @@ use Rattle.program.proofs.Nths.{nth-below, below-nth, nth-left, nth-right}
 use Rattle.table.specs.Rules.{Row, call, cont, solution}
 use Rattle.table.specs.Table.{rowWords, mask, Entry, entryWords, Before}
 use Rattle.table.specs.Keys.{firstCont, firstSolution, masks, bodyIndex, slotOf, keyOf, clauseAt, placeAt, rowAt, rowOf, Few, Regular, regular-call, regular-cont, regular-solution, Slot, slot-call, slot-cont, slot-solution}
-use Rattle.table.proofs.Promise.{before-once}
+use Rattle.table.proofs.Ordering.{before-once}
 
 -- the body atoms of the first clauses, with one clause before them
 behind : (d : Clause) (cs : List Clause) (k i : ℕ) → length (bodies (take (suc k) (d ∷ cs))) + i ≡ length (d .body) + (length (bodies (take k cs)) + i)

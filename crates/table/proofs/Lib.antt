@@ -1,9 +1,15 @@
 -- The laws that other crates cite, each module named by its subject.
+pub mod RulesOf
+pub mod RoundsOf
 pub mod RuleLaws
 pub mod RoundLaws
 pub mod Lists
 pub mod Distinct
 pub mod RoundCount
+pub mod ComputedRounds
+pub mod Ordering
+pub mod Tables
+pub mod PromiseLaws
 pub mod Computed
 pub mod ComputedLaws
 pub mod ModesComputed
@@ -18,8 +24,5 @@ pub mod Steps
 pub mod NewRows
 pub mod Looking
 pub mod RoundKeys
-pub mod Entries
 pub mod RoundEntries
-pub mod Sorting
-pub mod PromiseMet
 pub mod TableSamples

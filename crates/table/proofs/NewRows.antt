@@ -9,7 +9,8 @@ use Rattle.table.specs.Rules.{Row, call, cont, solution, Reached, first,
 use Rattle.table.specs.Rounds.{At}
 use Rattle.table.specs.Steps.{opens, makes, GoesOn, goes-call, goes-cont, EndsIn, ends-in, OnHead, on-head}
 use Rattle.table.specs.NewRows.{Earlier, NewReached, NewOnHead, new-on-head, NewGives}
-use Rattle.table.proofs.RuleLaws.{Within, reached-within}
+use Rattle.table.proofs.RulesOf.{Within}
+use Rattle.table.proofs.RuleLaws.{reached-within}
 
 module _ (D : Domain) (p : Program) (T₀ T : Row (D .Mark) → Type 0) where
   -- what is looked at is what the rules give

@@ -1,182 +1,118 @@
--- The promise of the analysis: no second reply and no second table meet it, and what an accepted table says of the least set.
-use Prim.Native.Nat.{ℕ, _≤_, _<_, _-_, _*_}
+-- The promise of the mode table, as `PromiseLaws` and `Tables` show it for any analysis that computes.
+use Prim.Native.Nat.{ℕ, suc, _<_, _-_, _*_}
+use native.Mathlib.Decide.{ℕ-discrete}
 use native.Mathlib.Omega.{arith}
-use mathlib.Core.Path.{_≡_, refl, sym, ap, _∙_}
-use mathlib.Core.Logic.{_⊎_, inl, inr, _↔_}
-use mathlib.Core.List.{List, [], _∷_, _++_, map, List·Memᴰ, List·Memᴰ·head, List·Memᴰ·tail, List·Memᴰ·cases-cons, List·Memᴰ·not-nil, Memᴰ·map}
-use lib.ListN.{length, replicate, length-map}
-use Rattle.terms.proofs.Masks.{mark-never-neither}
+use mathlib.Core.Path.{_≡_, refl}
+use mathlib.Core.Logic.{_↔_}
+use mathlib.Core.List.{List, _++_, map, List·Memᴰ}
+use lib.ListN.{length, replicate}
 use Rattle.marks.specs.Modes.{modes}
 use Rattle.program.specs.Program.{Program}
-use Rattle.program.specs.Reply.{accepted, noRoom, neither as badMark, done}
-use Rattle.program.specs.Faults.{Found, fault, sound, faults}
+use Rattle.program.specs.Reply.{accepted, noRoom, withdrawn, done}
+use Rattle.program.specs.Faults.{sound, faults}
 use Rattle.program.specs.declared.reply.Reply.{Reply}
 use Rattle.program.proofs.FaultNumbers.{fault-number}
-use Rattle.table.specs.Rules.{Row}
+use Rattle.table.specs.Rules.{Row, call, cont, solution, Row-discrete}
 use Rattle.table.specs.Rounds.{First, Least, Appears}
-use Rattle.table.specs.Table.{Entry, entryWords, tableWords, rowSize, Before, Ascending, Distinct, roomIn, TableOf, MoreThan, ComesOutNeither, Promise, faulty, listed, full, unmarked}
-use Rattle.table.proofs.Lists.{has-map}
-use Rattle.table.proofs.Distinct.{distinct-length, distinct-map}
-use Rattle.table.proofs.RoundLaws.{first-once, first-round, least-appears}
-use Rattle.table.proofs.RoundCount.{round-below-count}
-use Rattle.table.proofs.ComputedLaws.{at-decided}
+use Rattle.table.specs.Analysis.{Before, Distinct}
+use Rattle.table.specs.Table.{rowWords, rowSize, modesOf, Entry, entryWords, tableWords, Ascending, roomIn, TableOf, MoreThan, Promise}
+use Rattle.table.proofs.RuleLaws.{gives-finitary}
+use Rattle.table.proofs.Computed.{given, rowsAt}
+use Rattle.table.proofs.ComputedLaws.{given-all}
 use Rattle.table.proofs.ModesComputed.{modes-lists}
+use Rattle.table.proofs.Tables.{Computes, one-table, some-first, least-listed, rows-once, rounds-below, exceeds-length, computedTable, computed-is-table}
+use Rattle.table.proofs.Ordering.{ascends-append, all-words-append, all-words-length}
+use Rattle.table.proofs.PromiseLaws.{accepted-is-table, refusal-zeros, other-never, one-reply, no-room-exceeds, some-reply}
 
--- no list of words stands before one that stands before it, so none before itself
-pub before-once : (vs ws : List ℕ) → Before vs ws → Before ws vs → ⊥
-before-once (v ∷ vs) (w ∷ ws) (inl l) (inl m) = omega arith
-before-once (v ∷ vs) (w ∷ ws) (inl l) (inr (e, h)) = omega arith
-before-once (v ∷ vs) (w ∷ ws) (inr (e, h)) (inl m) = omega arith
-before-once (v ∷ vs) (w ∷ ws) (inr (e, h)) (inr (e′, h′)) = before-once vs ws h h′
+-- a row is read back from its words
+pub row-words-same : (r r′ : Row ℕ) → rowWords r ≡ rowWords r′ → r ≡ r′
+row-words-same (call s M) (call s′ M′) e = cc
+row-words-same (call s M) (cont n i M′) e = absurd (let z : _≡_ {A = ℕ} 1 2 = cc in omega arith)
+row-words-same (call s M) (solution s′ M′) e = absurd (let z : _≡_ {A = ℕ} 1 3 = cc in omega arith)
+row-words-same (cont n i M) (call s′ M′) e = absurd (let z : _≡_ {A = ℕ} 2 1 = cc in omega arith)
+row-words-same (cont n i M) (cont n′ i′ M′) e = cc
+row-words-same (cont n i M) (solution s′ M′) e = absurd (let z : _≡_ {A = ℕ} 2 3 = cc in omega arith)
+row-words-same (solution s M) (call s′ M′) e = absurd (let z : _≡_ {A = ℕ} 3 1 = cc in omega arith)
+row-words-same (solution s M) (cont n i M′) e = absurd (let z : _≡_ {A = ℕ} 3 2 = cc in omega arith)
+row-words-same (solution s M) (solution s′ M′) e = cc
 
--- an entry behind one that stands before it is not the same
-pub before-differs : (e f : Entry) → Before (entryWords e) (entryWords f) → e ≡ f → ⊥
-before-differs e f b d = before-once (entryWords f) (entryWords f) (rw d at b) (rw d at b)
+pub row-words-length : (row : Row ℕ) → suc (length (rowWords row)) ≡ rowSize
+row-words-length (call s M) = refl
+row-words-length (cont n i M) = refl
+row-words-length (solution s M) = refl
 
--- two ascending lists of the same entries are the same
-pub ascending-same : (es fs : List Entry) → Ascending es → Ascending fs
-    → ((e : Entry) → List·Memᴰ e es → List·Memᴰ e fs) → ((e : Entry) → List·Memᴰ e fs → List·Memᴰ e es) → es ≡ fs
-ascending-same [] [] a b to from = refl
-ascending-same [] (f ∷ fs) a b to from = absurd (List·Memᴰ·not-nil (from f (List·Memᴰ·head refl)))
-ascending-same (e ∷ es) [] a b to from = absurd (List·Memᴰ·not-nil (to e (List·Memᴰ·head refl)))
-ascending-same (e ∷ es) (f ∷ fs) (a, as′) (b, bs) to from =
-    let same = first (List·Memᴰ·cases-cons (to e (List·Memᴰ·head refl))) (List·Memᴰ·cases-cons (from f (List·Memᴰ·head refl))) in
-    rw (
-      same,
-      ascending-same es fs as′ bs
-          (λ g m. other fs g (λ d. before-differs e g (a g m) (same ∙ sym d)) (List·Memᴰ·cases-cons (to g (List·Memᴰ·tail m))))
-          (λ g m. other es g (λ d. before-differs f g (b g m) (sym (d ∙ same))) (List·Memᴰ·cases-cons (from g (List·Memᴰ·tail m)))),
-    )
-  where
-    first : (e ≡ f) ⊎ List·Memᴰ e fs → (f ≡ e) ⊎ List·Memᴰ f es → e ≡ f
-    first (inl d) _ = d
-    first (inr m) (inl d) = sym d
-    first (inr m) (inr n) = absurd (before-once (entryWords e) (entryWords f) (a f n) (b e m))
+pub table-words-length : (es : List Entry) → length (tableWords es) ≡ rowSize * length es
+table-words-length = all-words-length rowWords row-words-length row-words-same
 
-    other : {h : Entry} (l : List Entry) (g : Entry) → (g ≡ h → ⊥) → (g ≡ h) ⊎ List·Memᴰ g l → List·Memᴰ g l
-    other l g ne (inl d) = absurd (ne d)
-    other l g ne (inr m) = m
+pub table-words-append : (es fs : List Entry) → tableWords (es ++ fs) ≡ tableWords es ++ tableWords fs
+table-words-append = all-words-append rowWords
+
+pub ascending-append : (es fs : List Entry) → Ascending es → Ascending fs
+    → ((e f : Entry) → List·Memᴰ e es → List·Memᴰ f fs → Before (entryWords e) (entryWords f)) → Ascending (es ++ fs)
+ascending-append = ascends-append rowWords
+
+abbrev pub modes-computes : (p : Program) → Computes (modesOf p)
+modes-computes p =
+    record {
+      finitary = gives-finitary modes p;
+      same = Row-discrete ℕ-discrete (modes-lists .same);
+      given = given modes modes-lists p;
+      given-all = given-all modes modes-lists p;
+      sized = row-words-length;
+      one-row = row-words-same;
+    }
 
 module _ (p : Program) where
-  -- a row of the least set has a round
-  pub appears-first : (row : Row ℕ) → Appears modes p (p .ground) row → (k : ℕ) × First modes p (p .ground) k row
-  appears-first row (k, r) =
-      let (j, l, f) = first-round modes p (p .ground) (at-decided modes modes-lists p (p .ground)) k row r in (j, f)
-
-  -- a program has one table
   pub table-once : (es fs : List Entry) → TableOf p es → TableOf p fs → es ≡ fs
-  table-once es fs t u =
-      ascending-same es fs (t .ascending) (u .ascending) (λ e m. u .all (e .round) (e .row) (t .only e m)) (λ e m. t .all (e .round) (e .row) (u .only e m))
+  table-once = one-table (modesOf p)
 
-  -- no mark comes out neither any nor ground
-  pub neither-never : ComesOutNeither p → ⊥
-  neither-never (row, appears, v, e) = mark-never-neither _ v e
+  pub appears-first : (row : Row ℕ) → Appears modes p (p .ground) row → (k : ℕ) × First modes p (p .ground) k row
+  appears-first = some-first (modesOf p) (modes-computes p)
+
+  -- the table of a small program is computed: that of round k, where round k + 1 computes to the same rows
+  abbrev pub tableAt : ℕ → List Entry
+  tableAt = computedTable (modesOf p) (modes-computes p)
+
+  pub computed-table : (k : ℕ) (entries : List Entry) → rowsAt modes modes-lists p (p .ground) (suc k) ≡ rowsAt modes modes-lists p (p .ground) k → tableAt k ≡ entries → TableOf p entries
+  computed-table = computed-is-table (modesOf p) (modes-computes p)
 
   module _ (entries : List Entry) (t : TableOf p entries) where
-    abbrev pub rowsOf : List (Row ℕ)
+    abbrev rowsOf : List (Row ℕ)
     rowsOf = map (λ (e : Entry). e .row) entries
 
-    pub appears-listed : (row : Row ℕ) → Appears modes p (p .ground) row → List·Memᴰ row rowsOf
-    appears-listed row a =
-        let (k, f) = appears-first row a in Memᴰ·map (λ (e : Entry). e .row) (t .all k row f)
-
-    pub listed-appears : (row : Row ℕ) → List·Memᴰ row rowsOf → Appears modes p (p .ground) row
-    listed-appears row m =
-        let (e, h, d) = has-map (λ (e : Entry). e .row) entries m in rw d (e .round, t .only e h .0)
-
-    -- "accepted programs have exactly the least set"
     pub table-least : (row : Row ℕ) → Least modes p (p .ground) row ↔ List·Memᴰ row rowsOf
-    table-least row =
-        let l = least-appears modes p (p .ground) row in (λ least. appears-listed row (l .0 least), λ m. l .1 (listed-appears row m))
+    table-least = least-listed (modesOf p) (modes-computes p) entries t
 
-    -- "A row appears once"
     pub row-once : Distinct rowsOf
-    row-once = distinct-map (λ (e : Entry). e .row) entries (ascending-distinct entries (t .ascending)) same
-      where
-        ascending-distinct : (es : List Entry) → Ascending es → Distinct es
-        ascending-distinct [] a = tt
-        ascending-distinct (e ∷ es) (a, b) = (λ m. before-differs e e (a e m) refl, ascending-distinct es b)
+    row-once = rows-once (modesOf p) (modes-computes p) entries t
 
-        same : (e f : Entry) → List·Memᴰ e entries → List·Memᴰ f entries → e .row ≡ f .row → e ≡ f
-        same e f m n d =
-            let k = first-once modes p (p .ground) (e .round) (f .round) (f .row) (rw d at (t .only e m .0), rw d at (t .only e m .1)) (t .only f n) in λ i. record { round = k i; row = d i }
-
-    -- "and its round is below the number of rows"
     pub round-below : (e : Entry) → List·Memᴰ e entries → e .round < length entries
-    round-below e m =
-        round-below-count modes p (p .ground) (at-decided modes modes-lists p (p .ground)) entries (λ (f : Entry). f .round)
-        (λ j row f. (record { round = j; row = row }, t .all j row f, refl)) (e .round) (e .row) (t .only e m)
+    round-below = rounds-below (modesOf p) (modes-computes p) entries t
 
-    -- the least set has more than n rows exactly where the table has
     pub more-than-length : (n : ℕ) → MoreThan p n ↔ (n < length entries)
-    more-than-length n = (more, fewer)
-      where
-        more : MoreThan p n → n < length entries
-        more h = omega (arith, h .more, rw length-map at (distinct-length (h .rows) rowsOf (h .distinct) (λ row m. appears-listed row (h .appear row m))))
+    more-than-length = exceeds-length (modesOf p) (modes-computes p) entries t
 
-        fewer : n < length entries → MoreThan p n
-        fewer l = record { rows = rowsOf; distinct = row-once; appear = listed-appears; more = rw length-map l }
+module _ (words : List ℕ) (size : ℕ) where
+  pub promise-unique : (r r′ : Reply) (t t′ : List ℕ) → Promise words size r t → Promise words size r′ t′ → (r ≡ r′) × (t ≡ t′)
+  promise-unique = one-reply modesOf (faults words) size modes-computes
 
-    -- a table that has room, and one that has not, shut each other out
-    pub room-or-not : (n : ℕ) → length entries ≤ n → MoreThan p n → ⊥
-    room-or-not n l h = let more = more-than-length n .0 h in omega arith
+  pub promise-met : (r : Reply) × (t : List ℕ) × Promise words size r t
+  promise-met = some-reply modesOf (faults words) size modes-computes
 
--- a fault and a program shut each other out
-pub fault-or-sound : {number place : ℕ} {p : Program} (found : Found) → found ≡ fault number place → found ≡ sound p → ⊥
-fault-or-sound found d e = let z : _≡_ {A = ℕ} 0 1 = cc in omega arith
+  pub no-room-more : (r : Reply) (t : List ℕ) (p : Program) → faults words ≡ sound p → Promise words size r t → (r .number ≡ noRoom) ↔ MoreThan p (roomIn size)
+  no-room-more r t p says = no-room-exceeds modesOf (faults words) size modes-computes p says r t
 
-pub sound-same : {p q : Program} (found : Found) → found ≡ sound p → found ≡ sound q → p ≡ q
-sound-same found d e = cc
+  pub accepted-table : (r : Reply) (t : List ℕ) → Promise words size r t → r .number ≡ accepted
+      → (p : Program) × (entries : List Entry) × (faults words ≡ sound p) × TableOf p entries × (r ≡ done (length entries))
+      × (t ≡ tableWords entries ++ replicate (size - rowSize * length entries) 0)
+  accepted-table = accepted-is-table modesOf (faults words) size (λ n q f e. omega (arith, fault-number words n q f))
 
--- "show that no second reply satisfies it": and no second table
-pub promise-unique : (words : List ℕ) (size : ℕ) (r r′ : Reply) (t t′ : List ℕ) → Promise words size r t → Promise words size r′ t′ → (r ≡ r′) × (t ≡ t′)
-promise-unique words size r r′ t t′ (faulty n q f e z) (faulty n′ q′ f′ e′ z′) = (cc, z ∙ sym z′)
-promise-unique words size r r′ t t′ (faulty n q f e z) (listed p es f′ h l e′ z′) = absurd (fault-or-sound _ f f′)
-promise-unique words size r r′ t t′ (faulty n q f e z) (full p f′ h e′ z′) = absurd (fault-or-sound _ f f′)
-promise-unique words size r r′ t t′ (faulty n q f e z) (unmarked p f′ h e′ z′) = absurd (neither-never p h)
-promise-unique words size r r′ t t′ (listed p es f h l e z) (faulty n q f′ e′ z′) = absurd (fault-or-sound _ f′ f)
-promise-unique words size r r′ t t′ (listed p es f h l e z) (listed p′ es′ f′ h′ l′ e′ z′) =
-    let same = table-once p es es′ h (rw (sound-same _ f′ f) at h′) in (cc, cc)
-promise-unique words size r r′ t t′ (listed p es f h l e z) (full p′ f′ h′ e′ z′) = absurd (room-or-not p es h (roomIn size) l (rw (sound-same _ f′ f) at h′))
-promise-unique words size r r′ t t′ (listed p es f h l e z) (unmarked p′ f′ h′ e′ z′) = absurd (neither-never p′ h′)
-promise-unique words size r r′ t t′ (full p f h e z) (faulty n q f′ e′ z′) = absurd (fault-or-sound _ f′ f)
-promise-unique words size r r′ t t′ (full p f h e z) (listed p′ es′ f′ h′ l′ e′ z′) = absurd (room-or-not p′ es′ h′ (roomIn size) l′ (rw (sound-same _ f f′) at h))
-promise-unique words size r r′ t t′ (full p f h e z) (full p′ f′ h′ e′ z′) = (e ∙ sym e′, z ∙ sym z′)
-promise-unique words size r r′ t t′ (full p f h e z) (unmarked p′ f′ h′ e′ z′) = absurd (neither-never p′ h′)
-promise-unique words size r r′ t t′ (unmarked p f h e z) other = absurd (neither-never p h)
+  pub accepted-listed : (r : Reply) (t : List ℕ) → Promise words size r t → r .number ≡ accepted
+      → (p : Program) × (entries : List Entry) × (faults words ≡ sound p) × TableOf p entries × (r ≡ done (length entries))
+  accepted-listed r t h d = let (p, entries, f, rows, e, z) = accepted-table r t h d in (p, entries, f, rows, e)
 
--- "no room" exactly where the least set has more rows than the room
-pub no-room-more : (words : List ℕ) (size : ℕ) (r : Reply) (t : List ℕ) (p : Program) → faults words ≡ sound p → Promise words size r t
-    → (r .number ≡ noRoom) ↔ MoreThan p (roomIn size)
-no-room-more words size r t p s (faulty n q f e z) = absurd (fault-or-sound _ f s)
-no-room-more words size r t p s (listed p′ es f h l e z) =
-    (λ d. absurd (let b : _≡_ {A = ℕ} 0 noRoom = rw e at d in omega arith), λ m. absurd (room-or-not p′ es h (roomIn size) l (rw (sound-same _ s f) at m)))
-no-room-more words size r t p s (full p′ f h e z) = (λ d. rw (sound-same _ s f) h, λ m. ap (λ (x : Reply). x .number) e)
-no-room-more words size r t p s (unmarked p′ f h e z) = absurd (neither-never p′ h)
+  pub refused-zeros : (r : Reply) (t : List ℕ) → Promise words size r t → (r .number ≡ accepted → ⊥) → (t ≡ replicate size 0) × (r .count ≡ 0)
+  refused-zeros = refusal-zeros modesOf (faults words) size
 
--- number 0 is a table of exactly the least set, and zeros behind it
-pub accepted-table : (words : List ℕ) (size : ℕ) (r : Reply) (t : List ℕ) → Promise words size r t → r .number ≡ accepted
-    → (p : Program) × (entries : List Entry) × (faults words ≡ sound p) × TableOf p entries × (r ≡ done (length entries))
-    × (t ≡ tableWords entries ++ replicate (size - rowSize * length entries) 0)
-accepted-table words size r t (faulty n q f e z) d = absurd (let b : n ≡ accepted = rw e at d in omega (arith, fault-number words n q f))
-accepted-table words size r t (listed p entries f h l e z) d = (p, entries, f, h, e, z)
-accepted-table words size r t (full p f h e z) d = absurd (let b : noRoom ≡ accepted = rw e at d in omega arith)
-accepted-table words size r t (unmarked p f h e z) d = absurd (neither-never p h)
-
-pub accepted-listed : (words : List ℕ) (size : ℕ) (r : Reply) (t : List ℕ) → Promise words size r t → r .number ≡ accepted
-    → (p : Program) × (entries : List Entry) × (faults words ≡ sound p) × TableOf p entries × (r ≡ done (length entries))
-accepted-listed words size r t h d = let (p, entries, f, rows, e, z) = accepted-table words size r t h d in (p, entries, f, rows, e)
-
--- "Every refusal zeroes all lent output", and counts nothing
-pub refused-zeros : (words : List ℕ) (size : ℕ) (r : Reply) (t : List ℕ) → Promise words size r t → (r .number ≡ accepted → ⊥) → (t ≡ replicate size 0) × (r .count ≡ 0)
-refused-zeros words size r t (faulty n q f e z) d = (z, ap (λ (x : Reply). x .count) e)
-refused-zeros words size r t (listed p entries f h l e z) d = absurd (d (ap (λ (x : Reply). x .number) e))
-refused-zeros words size r t (full p f h e z) d = (z, ap (λ (x : Reply). x .count) e)
-refused-zeros words size r t (unmarked p f h e z) d = (z, ap (λ (x : Reply). x .count) e)
-
--- number 10 never comes
-pub ten-never : (words : List ℕ) (size : ℕ) (r : Reply) (t : List ℕ) → Promise words size r t → r .number ≡ badMark → ⊥
-ten-never words size r t (faulty n q f e z) d = let b : n ≡ badMark = rw e at d in omega (arith, fault-number words n q f)
-ten-never words size r t (listed p entries f h l e z) d = let b : accepted ≡ badMark = rw e at d in omega arith
-ten-never words size r t (full p f h e z) d = let b : noRoom ≡ badMark = rw e at d in omega arith
-ten-never words size r t (unmarked p f h e z) d = neither-never p h
+  pub never-withdrawn : (r : Reply) (t : List ℕ) → Promise words size r t → r .number ≡ withdrawn → ⊥
+  never-withdrawn = other-never modesOf (faults words) size withdrawn (λ n q f e. omega (arith, fault-number words n q f)) (λ e. omega arith) (λ e. omega arith)

@@ -18,7 +18,7 @@ use Rattle.table.specs.NewRows.{Earlier, NewGives}
 use Rattle.table.specs.RoundKeys.{Keyed, RoundKeys, Looked}
 use Rattle.table.proofs.Lists.{has-map}
 use Rattle.table.proofs.Distinct.{distinct-map}
-use Rattle.table.proofs.RuleLaws.{Within}
+use Rattle.table.proofs.RulesOf.{Within}
 use Rattle.table.proofs.RoundLaws.{rounds-grow, least-at}
 use Rattle.table.proofs.ComputedLaws.{at-decided}
 use Rattle.table.proofs.ModesComputed.{modes-lists}

@@ -16,13 +16,13 @@ use Rattle.program.proofs.ListLaws.{listed-decided}
 use Rattle.program.proofs.Samples.{empty-slice, least-program, legs as legs-words, legs-read}
 use Rattle.program.proofs.ShapeLaws.{member-decided}
 use Rattle.table.specs.Rules.{Row, call, cont, solution}
-use Rattle.table.specs.Table.{Entry, TableOf, Promise, faulty, listed, full}
+use Rattle.table.specs.Promise.{faulty, listed, full}
+use Rattle.table.specs.Table.{Entry, TableOf, Promise}
 use Rattle.table.proofs.Computed.{rowsAt}
 use Rattle.table.proofs.ModesComputed.{modes-lists}
 use Rattle.table.proofs.Samples.{legs, legs-round-3, legs-round-4, late, late-round-4, late-round-5}
-use Rattle.table.proofs.Promise.{more-than-length}
-use Rattle.table.proofs.Sorting.{sort}
-use Rattle.table.proofs.PromiseMet.{tableAt, computed-table}
+use Rattle.table.proofs.Ordering.{sort}
+use Rattle.table.proofs.Promise.{more-than-length, tableAt, computed-table}
 
 abbrev pub entry : ℕ → Row ℕ → Entry
 entry k row = record { round = k; row = row }

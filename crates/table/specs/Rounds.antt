@@ -1,4 +1,4 @@
--- The rounds, the round of a row, and the least closed set of rows.
+-- The rounds, the round of a row, and the least closed set of rows: under any rules, and under the mode rules.
 use Prim.Native.Nat.{ℕ, zero, suc, _<_}
 use mathlib.Core.Path.{_≡_}
 use mathlib.Core.Logic.{_⊎_}
@@ -6,24 +6,42 @@ use Rattle.marks.specs.Domain.{Domain}
 use Rattle.program.specs.Program.{Program}
 use Rattle.table.specs.Rules.{Row, call, Gives}
 
-module _ (D : Domain) (p : Program) (goal : D .Mark) where
+-- of any rows: `start` is the row of round 0, `Rules T` is what the rules give from the set of rows T
+module _ {R : Type 0} (start : R) (Rules : (R → Type 0) → R → Type 0) where
   -- "Round 0 has one row, the goal's call. Round k+1 adds all that the rules give from the rows so far."
-  abbrev pub At : ℕ → Row (D .Mark) → Type 0
-  At zero row = row ≡ call 0 goal
-  At (suc k) row = At k row ⊎ Gives D p (At k) row
+  abbrev pub InRound : ℕ → R → Type 0
+  InRound zero row = row ≡ start
+  InRound (suc k) row = InRound k row ⊎ Rules (InRound k) row
 
   -- the round in which a row first appears
-  abbrev pub First : ℕ → Row (D .Mark) → Type 0
-  First k row = At k row × ((j : ℕ) → j < k → At j row → ⊥)
+  abbrev pub FirstIn : ℕ → R → Type 0
+  FirstIn k row = InRound k row × ((j : ℕ) → j < k → InRound j row → ⊥)
 
   -- the rules give nothing outside the set
-  abbrev pub Closed : (Row (D .Mark) → Type 0) → Type 0
-  Closed T = (row : Row (D .Mark)) → Gives D p T row → T row
+  abbrev pub ClosedUnder : (R → Type 0) → Type 0
+  ClosedUnder T = (row : R) → Rules T row → T row
 
-  -- "The table is the least set of rows closed under the mode rules": the rows of every closed set that has the goal's call
-  abbrev pub Least : Row (D .Mark) → Type 1
-  Least row = (T : Row (D .Mark) → Type 0) → Closed T → T (call 0 goal) → T row
+  -- "The table is the least set of rows closed under the mode rules": the rows of every closed set that has the row of round 0
+  abbrev pub LeastOf : R → Type 1
+  LeastOf row = (T : R → Type 0) → ClosedUnder T → T start → T row
 
   -- the union of the rounds: the rows that appear in some round
+  abbrev pub InSome : R → Type 0
+  InSome row = (k : ℕ) × InRound k row
+
+-- of the mode rules, from the goal's call
+module _ (D : Domain) (p : Program) (goal : D .Mark) where
+  abbrev pub At : ℕ → Row (D .Mark) → Type 0
+  At = InRound (call 0 goal) (Gives D p)
+
+  abbrev pub First : ℕ → Row (D .Mark) → Type 0
+  First = FirstIn (call 0 goal) (Gives D p)
+
+  abbrev pub Closed : (Row (D .Mark) → Type 0) → Type 0
+  Closed = ClosedUnder (call 0 goal) (Gives D p)
+
+  abbrev pub Least : Row (D .Mark) → Type 1
+  Least = LeastOf (call 0 goal) (Gives D p)
+
   abbrev pub Appears : Row (D .Mark) → Type 0
-  Appears row = (k : ℕ) × At k row
+  Appears = InSome (call 0 goal) (Gives D p)

@@ -32,7 +32,7 @@ module _ (words : List ℕ) (r : Reply) (is : r ≡ scanReply (faults words)) wh
   pub words-accepted : r .number ≡ 0 → Accepted words
   words-accepted z = by (faults words) refl
     where
-      by : (f : Found) → faults words ≡ f → Accepted words
+      by : (f : Found Program) → faults words ≡ f → Accepted words
       by (sound p) e = (p, e)
       by (fault number place) e =
           let n : r .number ≡ number = ap (λ (x : Reply). x .number) (is ∙ ap scanReply e) in
@@ -43,7 +43,7 @@ module _ (words : List ℕ) (r : Reply) (is : r ≡ scanReply (faults words)) wh
   unfolding writeOf
   words-refused names room nz = by (faults words) refl
     where
-      by : (f : Found) → faults words ≡ f → Refused words names room r
+      by : (f : Found Program) → faults words ≡ f → Refused words names room r
       by (fault number place) e = rw e (is ∙ ap scanReply e, refl)
       by (sound p) e = absurd (nz (ap (λ (x : Reply). x .number) (is ∙ ap scanReply e)))
 

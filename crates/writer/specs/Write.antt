@@ -25,7 +25,7 @@ textOf p names =
     ++ clauseLines names (length (p .predicates)) (p .clauses)
     ++ line query (atomTokens names (length (p .predicates)) (modesOf (after 0 (p .goal)) (p .ground)) (enc (p .goal)))
 
-abbrev pub written : List ℕ → Found → Read (List ℕ)
+abbrev pub written : List ℕ → Found Program → Read (List ℕ)
 written names (fault number place) = wrong number place
 written names (sound p) =
     next (namesOf names (length (p .predicates)) (length (p .predicates) + length (p .functions))) (λ ns. right (textOf p ns))

@@ -5,7 +5,7 @@ use mathlib.Core.Path.{_≡_, ap, _∙_}
 use mathlib.Core.List.{_++_}
 use lib.ListN.{length, getD, replicate}
 use Rattle.table.specs.Table.{rowSize, tableWords}
-use Rattle.table.proofs.Entries.{table-words-length}
+use Rattle.table.proofs.Promise.{table-words-length}
 use Rattle.analysis.proofs.Replies.{zeros-behind}
 use Rattle.analysis.proofs.LastRows.{last-packed, last-table, last-many}
 use borrow.Author.Needs.{needs}

@@ -4,7 +4,7 @@ use native.Mathlib.Omega.{arith}
 use mathlib.Core.Path.{refl, ap, _∙_}
 use lib.ListN.{length, replicate}
 use Rattle.program.specs.Reply.{noRoom, refused}
-use Rattle.table.specs.Table.{full}
+use Rattle.table.specs.Promise.{full}
 use Rattle.analysis.proofs.Replies.{setting-of, room-fits, past-more, within-complete, table-listed}
 use borrow.Author.Needs.{needs}
 use Rattle.analysis.proofs.analyse.tabled.Statement.{statement}
