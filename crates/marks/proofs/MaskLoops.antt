@@ -6,12 +6,11 @@ use mathlib.Core.Path.{_≡_, refl, sym, subst}
 use mathlib.Core.Logic.{_↔_, _⊎_, inl, inr, ⊎-elim}
 use mathlib.Core.List.{List}
 use lib.ListN.{getD}
-use lib.Bits.{bitOr, bitXor}
+use lib.Bits.{bitOr}
 use Rattle.terms.specs.Cells.{variables}
 use Rattle.terms.specs.Mask.{Has, Marks}
-use Rattle.terms.proofs.Masks.{has-none, has-or, has-one, same-marks}
+use Rattle.terms.proofs.Masks.{has-none, has-or, has-one}
 use Rattle.terms.proofs.Replacing.{without-bit}
-use Rattle.marks.proofs.SingleBits.{has-xor, JustOne}
 
 abbrev pub Done : ℕ → ℕ → ℕ → Type 0
 Done asked left y = Has asked y × (Has left y → ⊥)
@@ -82,45 +81,28 @@ module _ (In : ℕ → Type 0) (asked left mask x : ℕ) (h : Has left x) (w : W
     λ e. ⊎-elim (λ d. s y .1 (d, e .1)) (λ q. absurd (o (subst In q (e .1)))) (done-one-more asked left x h w y .0 (e .0)),
   )
 
--- the variables asked for, sorted: those of which `In` holds are in `within`, the others in `out`, and some are left
-pub record Sorting (In : ℕ → Type 0) (asked left within out : ℕ) : Type 0 where
+-- the variables asked for, one by one: those that are done and of which `In` holds are in `mask`, and some are left
+pub record Sorting (In : ℕ → Type 0) (asked left mask : ℕ) : Type 0 where
   pub small : left < 2 ^ variables
   pub was-asked : Within asked left
-  pub ins : Sorted In asked left within
-  pub outs : Sorted (λ y. In y → ⊥) asked left out
+  pub sorted : Sorted In asked left mask
 
-pub sorting-none : (In : ℕ → Type 0) (asked : ℕ) → asked < 2 ^ variables → Sorting In asked asked 0 0
-sorting-none In asked small = record { small = small; was-asked = λ y b. b; ins = sorted-none In asked; outs = sorted-none (λ y. In y → ⊥) asked }
+pub sorting-none : (In : ℕ → Type 0) (asked : ℕ) → asked < 2 ^ variables → Sorting In asked asked 0
+sorting-none In asked small = record { small = small; was-asked = λ y b. b; sorted = sorted-none In asked }
 
-module _ (In : ℕ → Type 0) (asked left within out x : ℕ) (h : Has left x) (s : Sorting In asked left within out) where
-  pub sorting-in : In x → Sorting In asked (left - 2 ^ x) (bitOr within (2 ^ x)) out
+module _ (In : ℕ → Type 0) (asked left mask x : ℕ) (h : Has left x) (s : Sorting In asked left mask) where
+  pub sorting-in : In x → Sorting In asked (left - 2 ^ x) (bitOr mask (2 ^ x))
   sorting-in i =
       record {
         small = omega (arith, s .small);
         was-asked = within-without asked left x h (s .was-asked);
-        ins = sorted-in In asked left within x h (s .was-asked) (s .ins) i;
-        outs = sorted-out (λ y. In y → ⊥) asked left out x h (s .was-asked) (s .outs) (λ n. n i);
+        sorted = sorted-in In asked left mask x h (s .was-asked) (s .sorted) i;
       }
 
-  pub sorting-out : (In x → ⊥) → Sorting In asked (left - 2 ^ x) within (bitOr out (2 ^ x))
+  pub sorting-out : (In x → ⊥) → Sorting In asked (left - 2 ^ x) mask
   sorting-out n =
       record {
         small = omega (arith, s .small);
         was-asked = within-without asked left x h (s .was-asked);
-        ins = sorted-out In asked left within x h (s .was-asked) (s .ins) n;
-        outs = sorted-in (λ y. In y → ⊥) asked left out x h (s .was-asked) (s .outs) n;
+        sorted = sorted-out In asked left mask x h (s .was-asked) (s .sorted) n;
       }
-
--- every variable came out on just one side, so that no mark is neither
-pub just-one-side : (In : ℕ → Type 0) (asked within out : ℕ) → ((y : ℕ) → Dec (In y)) → Sorting In asked 0 within out → bitXor out within ≡ asked
-just-one-side In asked within out decide s =
-    same-marks (bitXor out within) asked
-    (λ y. (λ b. one y (has-xor out within y .0 b), λ a. has-xor out within y .1 (side y a (decide y))))
-  where
-    one : (y : ℕ) → JustOne (Has out y) (Has within y) → Has asked y
-    one y (inl j) = s .outs y .0 (j .0) .0 .0
-    one y (inr j) = s .ins y .0 (j .0) .0 .0
-
-    side : (y : ℕ) → Has asked y → Dec (In y) → JustOne (Has out y) (Has within y)
-    side y a (yes p) = inr (s .ins y .1 ((a, has-none y), p), λ b. s .outs y .0 b .1 p)
-    side y a (no n) = inl (s .outs y .1 ((a, has-none y), n), λ b. n (s .ins y .0 b .1))

@@ -1,7 +1,7 @@
--- Marks passed on the sets that unification leaves are marks passed through a most general unifier, in both directions; and no mark comes out neither any nor ground.
+-- Marks passed on the sets that unification leaves are marks passed through a most general unifier, in both directions.
 use Prim.Native.Nat.{ℕ, _+_}
 use native.Mathlib.Nat.{zero-add}
-use mathlib.Core.Path.{_≡_, sym, ap}
+use mathlib.Core.Path.{sym}
 use mathlib.Core.Logic.{_↔_, ⊎-map}
 use mathlib.Core.List.{List}
 use lib.ListN.{getD}
@@ -11,11 +11,9 @@ use Rattle.terms.specs.Unifier.{MostGeneral}
 use Rattle.terms.specs.Unified.{Sets}
 use Rattle.terms.specs.Mask.{Has, Marks}
 use Rattle.terms.proofs.Substs.{all-occ, occ-all}
-use Rattle.terms.proofs.Masks.{has-below, marks-for, marks-unique}
+use Rattle.terms.proofs.Masks.{has-below, marks-for}
 use Rattle.marks.specs.Pass.{Known, Marked, Pass}
-use Rattle.marks.specs.Passing.{VariablesOf, StandAt, KnownIn, AllKnownIn, MarkedIn, PassedOn}
-use Rattle.marks.specs.declared.pass.Passed.{Passed}
-use Rattle.marks.specs.declared.pass.Passed.the-variants.{Mask, Neither}
+use Rattle.marks.specs.Passing.{VariablesOf, StandAt, KnownIn, AllKnownIn, MarkedIn}
 
 -- a most general unifier of A and B is one of B and A
 pub most-general-symmetric : {A B : Term} {α β : Subst} → MostGeneral A B α β → MostGeneral B A β α
@@ -30,16 +28,6 @@ first-stands s = record { stands = λ v l. rw zero-add (s .first v l) }
 
 pub second-stands : {α β : Subst} {sets : List ℕ} → Sets α β sets → StandAt β sets variables
 second-stands s = record { stands = s .second }
-
--- "a mark comes out neither any nor ground": it never does
-pub never-neither : (sets : List ℕ) (from M P to N Q : ℕ) → PassedOn sets from M P to N Q Neither → ⊥
-never-neither sets from M P to N Q h = h .3 (h .2)
-
--- no second answer meets the promise
-pub passed-on-unique : (sets : List ℕ) (from M P to N Q : ℕ) (r r′ : Passed) → PassedOn sets from M P to N Q r → PassedOn sets from M P to N Q r′ → r ≡ r′
-passed-on-unique sets from M P to N Q (Mask R) (Mask R′) h h′ = ap Mask (marks-unique (MarkedIn sets from M P to N Q) R R′ h h′)
-passed-on-unique sets from M P to N Q (Mask R) Neither h h′ = absurd (never-neither sets from M P to N Q h′)
-passed-on-unique sets from M P to N Q Neither r′ h h′ = absurd (never-neither sets from M P to N Q h)
 
 -- a variable of the atom has its set
 set-of : {A : Term} {σ : Subst} {sets : List ℕ} {base P : ℕ} → StandAt σ sets base → VariablesOf A P → (v : ℕ) → Has P v
@@ -65,14 +53,14 @@ module _ {A B : Term} {α β : Subst} {sets : List ℕ} {from P to Q : ℕ} (M N
           let q = vars′ .marked y .1 (h .0) in
           (q, λ z b. known-same z .1 (all-occ (Known A M α) (β y) (h .1) z (set-of stands′ vars′ y q z .0 b)))
 
-  pub passed-on-passes : {R : ℕ} → MostGeneral A B α β → PassedOn sets from M P to N Q (Mask R) → Pass A M B N R
+  pub passed-on-passes : {R : ℕ} → MostGeneral A B α β → Marks (MarkedIn sets from M P to N Q) R → Pass A M B N R
   passed-on-passes {R} u r = record { α = α; β = β; unifier = u; result = marks-for R marked-same r }
 
 -- the sets of the two atoms that were unified: marks pass from the first to the second, and from the second to the first
 module _ {A B : Term} {α β : Subst} {sets : List ℕ} {P Q : ℕ} (M N R : ℕ) (u : MostGeneral A B α β) (s : Sets α β sets)
     (vars : VariablesOf A P) (vars′ : VariablesOf B Q) where
-  pub first-to-second : PassedOn sets 0 M P variables N Q (Mask R) → Pass A M B N R
+  pub first-to-second : Marks (MarkedIn sets 0 M P variables N Q) R → Pass A M B N R
   first-to-second r = passed-on-passes M N (first-stands s) vars (second-stands s) vars′ u r
 
-  pub second-to-first : PassedOn sets variables N Q 0 M P (Mask R) → Pass B N A M R
+  pub second-to-first : Marks (MarkedIn sets variables N Q 0 M P) R → Pass B N A M R
   second-to-first r = passed-on-passes N M (second-stands s) vars′ (first-stands s) vars (most-general-symmetric u) r

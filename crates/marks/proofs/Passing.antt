@@ -1,17 +1,18 @@
--- Laws of marks passed through a most general unifier: one result whichever unifier is taken, sound for every other unifier, growing with the marks, and there wherever the atoms unify.
+-- Laws of marks passed through a most general unifier: one result whichever unifier is taken, sound for every other unifier, growing with the marks, any or ground and nothing else, and there wherever the atoms unify.
 -- The one idea: what is known through a most general unifier stays known under every unifier.
 use Prim.Native.Nat.{ℕ}
+use native.Mathlib.Omega.{arith}
 use mathlib.Core.Path.{_≡_, sym, subst}
-use mathlib.Core.Logic.{_⊎_, inl, inr}
+use mathlib.Core.Logic.{_⊎_, inl, inr, ⊎-elim}
 use lib.Bits.{bitOr}
 use Rattle.terms.specs.Term.{Term, Subst, Occ, All, Ground}
 use Rattle.terms.specs.Unifier.{Unifies, Apart, MostGeneral}
 use Rattle.terms.proofs.Substs.{all-occ, occ-all, occ-sub, sub-occ}
 use Rattle.terms.proofs.Variables.{both-decided, decided-for, occ-decided, all-decided, some-decided, above, occ-above}
 use Rattle.terms.proofs.Pairs.{Decided, unifier-decided}
-use Rattle.terms.specs.Mask.{Has, Marks}
+use Rattle.terms.specs.Mask.{any, ground, markOf, Has, Marks}
 use Rattle.marks.specs.Pass.{Known, Marked, Pass}
-use Rattle.terms.proofs.Masks.{has-decided, marks-or, maskOf, maskOf-marks, same-marks}
+use Rattle.terms.proofs.Masks.{has-decided, mark-any-or-ground, marks-or, maskOf, maskOf-marks, same-marks}
 
 -- marks of M are marks of M′
 abbrev pub Fewer : ℕ → ℕ → Type 0
@@ -61,6 +62,12 @@ pass-within {A} {B} {M} {N} p y h = at (p .result y .0 h)
     at : Marked A M B N (p .α) (p .β) y → Has N y ⊎ Occ y B
     at (inl b) = inl b
     at (inr k) = inr (k .0)
+
+-- "Passing marks through a unifier cannot give a third value": in the result the mark of a variable is ground where it is marked, and any elsewhere
+pub any-or-ground : {A B : Term} {M N R : ℕ} (p : Pass A M B N R) (v : ℕ)
+    → ((markOf R v ≡ ground) × Marked A M B N (p .α) (p .β) v) ⊎ ((markOf R v ≡ any) × (Marked A M B N (p .α) (p .β) v → ⊥))
+any-or-ground {R = R} p v =
+    ⊎-elim (λ a. inr (a, λ m. let g = p .result v .1 m in omega arith)) (λ g. inl (g, p .result v .0 g)) (mark-any-or-ground R v)
 
 -- what a most general unifier marks, as a mask
 module _ (A : Term) (M : ℕ) (B : Term) (N : ℕ) (α β : Subst) where

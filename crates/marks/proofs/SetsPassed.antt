@@ -1,6 +1,5 @@
 -- Marks passed on sets of variables: what the tests of sets and masks say of marked variables.
 use Prim.Native.Nat.{ℕ, _+_}
-use native.Mathlib.Decide.{ℕ-discrete}
 use mathlib.Core.Path.{_≡_}
 use mathlib.Core.Logic.{_↔_, _⊎_, inl, inr}
 use mathlib.Core.List.{List}
@@ -15,9 +14,6 @@ use Rattle.marks.proofs.MaskLoops.{Gathered, Sorted}
 -- the variable's set is inside the set
 abbrev pub Inside : List ℕ → ℕ → ℕ → ℕ → Type 0
 Inside sets to set y = bitAnd (getD sets (to + y) 0) set ≡ getD sets (to + y) 0
-
-pub inside-decided : (sets : List ℕ) (to set y : ℕ) → Dec (Inside sets to set y)
-inside-decided sets to set y = ℕ-discrete (bitAnd (getD sets (to + y) 0) set) (getD sets (to + y) 0)
 
 -- the variables of a mask that another does not mark
 pub has-less : (q n : ℕ) → Marks (λ y. Has q y × (Has n y → ⊥)) (bitXor q (bitAnd q n))

@@ -6,8 +6,6 @@ use lib.ListN.{getD}
 use Rattle.terms.specs.Term.{Term, Subst, Occ}
 use Rattle.terms.specs.Cells.{variables}
 use Rattle.terms.specs.Mask.{Has, Marks}
-use Rattle.marks.specs.declared.pass.Passed.{Passed}
-use Rattle.marks.specs.declared.pass.Passed.the-variants.{Mask, Neither}
 
 -- the 16-bit mask of an atom's variables
 pub record VariablesOf (A : Term) (P : ℕ) : Type 0 where
@@ -29,9 +27,3 @@ AllKnownIn sets from M P to y = (z : ℕ) → Has (getD sets (to + y) 0) z → K
 -- "a variable of B is marked in the result if N marks it, or if all variables ..": B's sets begin at `to`, Q has its variables
 abbrev pub MarkedIn : List ℕ → ℕ → ℕ → ℕ → ℕ → ℕ → ℕ → ℕ → Type 0
 MarkedIn sets from M P to N Q y = Has N y ⊎ (Has Q y × AllKnownIn sets from M P to y)
-
--- what each answer says: the mask of the marked variables; or that "a mark comes out neither any nor ground", which never is so
-abbrev pub PassedOn : List ℕ → ℕ → ℕ → ℕ → ℕ → ℕ → ℕ → Passed → Type 0
-PassedOn sets from M P to N Q (Mask R) = Marks (MarkedIn sets from M P to N Q) R
-PassedOn sets from M P to N Q Neither =
-    (y : ℕ) × Has Q y × (MarkedIn sets from M P to N Q y → ⊥) × ((MarkedIn sets from M P to N Q y → ⊥) → ⊥)

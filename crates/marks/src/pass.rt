@@ -4,13 +4,7 @@ use crate::bits::mark;
 ghost use Prim.Native.Nat.{_≤_};
 ghost use Rattle.terms.specs.Cells.{variables};
 ghost use Rattle.terms.specs.Mask.{Marks};
-ghost use Rattle.marks.specs.Passing.{KnownIn, PassedOn};
-
-// The marks that result; or, reply 10, "a mark comes out neither any nor ground".
-pub enum Passed {
-    Mask(u16),
-    Neither,
-}
+ghost use Rattle.marks.specs.Passing.{KnownIn, MarkedIn};
 
 // The variables known ground: those of the sets of the marked variables that are present.
 pub fn known(sets: &[u32; 32], base: usize, mask: u16, present: u16) -> u32
@@ -28,7 +22,7 @@ pub fn known(sets: &[u32; 32], base: usize, mask: u16, present: u16) -> u32
     all
 }
 
-// Marks pass from atom A (mask m, sets from `from` on, variables `here`) to atom B (mask n, sets from `to` on, variables `there`).
+// Marks pass from atom A (mask m, sets from `from` on, variables `here`) to atom B (mask n, sets from `to` on, variables `there`): the mask that results.
 pub fn pass_on(
     sets: &[u32; 32],
     from: usize,
@@ -37,15 +31,13 @@ pub fn pass_on(
     to: usize,
     n: u16,
     there: u16,
-) -> Passed
+) -> u16
     requires { ⌜ (from ≤ variables) × (to ≤ variables) ⌝ }
-    ensures { λ r. ⌜ PassedOn (now (sets .entry)) from m here to n there r ⌝ }
+    ensures { λ r. ⌜ Marks (MarkedIn (now (sets .entry)) from m here to n there) r ⌝ }
 {
     let ground_by = known(sets, from, m, here);
-    let asked = there ^ (there & n);
-    let mut left = asked;
+    let mut left = there ^ (there & n);
     let mut ground = 0u16;
-    let mut any = 0u16;
     while 0 < left {
         let y = lowest(left);
         let bit = mark(y);
@@ -53,13 +45,8 @@ pub fn pass_on(
         let set = sets[at];
         if set & ground_by == set {
             ground = ground | bit;
-        } else {
-            any = any | bit;
         }
         left = left - bit;
     }
-    if any ^ ground == asked {
-        return Passed::Mask(n | ground);
-    }
-    Passed::Neither
+    n | ground
 }

@@ -4,7 +4,6 @@ use directory::layout::FUNCTIONS_START;
 use directory::layout::PREDICATES_START;
 use directory::layout::SHAPE_CELLS;
 use directory::layout::SHAPE_START;
-use marks::pass::Passed;
 use marks::pass::pass_on;
 use terms::sets::sets_of;
 use terms::unifier::NO_PLACE;
@@ -106,15 +105,12 @@ pub fn meet_stored<'a>(
     sets_of(run, &words[start..end], arities, places, sets);
 }
 
-// The marks that pass; none comes out neither any nor ground.
+// The marks that pass to an atom that has none of its own.
 pub fn passed(sets: &[u32; 32], from: usize, m: u16, here: u16, to: usize, there: u16) -> u16
     requires { ⌜ (from ≤ 16) × (to ≤ 16) ⌝ }
     ensures { λ r. ⌜ (r < 65536) × Marks (MarkedIn (now (sets .entry)) from m here to 0 there) r ⌝ }
 {
-    match pass_on(sets, from, m, here, to, 0, there) {
-        Passed::Mask(r) => r,
-        Passed::Neither => 0,
-    }
+    pass_on(sets, from, m, here, to, 0, there)
 }
 
 // The marks of the first so many variables.

@@ -1,25 +1,25 @@
--- `pass_on` meets its contract: the loop sorts the variables asked for by whether their sets are inside the known ones, so that just one side has each. Assumes nothing.
+-- `pass_on` meets its contract: of the variables that N does not mark, the loop finds those whose sets are inside the known ones. Assumes nothing.
 use Prim.Native.Nat.{_^_, _≤_, _<_}
 use native.Mathlib.Omega.{arith}
 use borrow.Author.Needs.{needs}
 use mathlib.Core.Path.{_≡_}
 use mathlib.Core.Logic.{⊎-elim}
-use lib.Bits.{bitAnd, bitXor, and-lt, xor-lt}
+use lib.Bits.{bitAnd, and-lt, xor-lt}
 use lib.Pow.{pow-pos}
 use Rattle.terms.specs.Cells.{variables}
 use Rattle.terms.specs.Mask.{Has}
 use Rattle.marks.proofs.SingleBits.{lowest-turn}
-use Rattle.marks.proofs.MaskLoops.{Sorting, sorting-none, sorting-in, sorting-out, just-one-side}
-use Rattle.marks.proofs.SetsPassed.{Inside, inside-decided, marked-of-ground}
+use Rattle.marks.proofs.MaskLoops.{Sorting, sorting-none, sorting-in, sorting-out}
+use Rattle.marks.proofs.SetsPassed.{Inside, marked-of-ground}
 use Rattle.marks.proofs.pass.pass_on.Statement.{statement}
 use Rattle.marks.proofs.pass.pass_on.Tie as tie
 
 abbrev Inv-loop : tie.InvT-loop
-Inv-loop sets from m here to n there ground-by asked left₀ ground₀ any₀ left ground any =
-    Sorting (Inside sets to ground-by) asked left ground any
+Inv-loop sets from m here to n there ground-by left₀ ground₀ left ground =
+    Sorting (Inside sets to ground-by) left₀ left ground
 
 abbrev μ-loop : tie.MeasureT-loop
-μ-loop sets from m here to n there ground-by asked left₀ ground₀ any₀ left ground any = left
+μ-loop sets from m here to n there ground-by left₀ ground₀ left ground = left
 
 -- a turn takes a variable that is left
 turn : (c : tie.After-lowest Inv-loop μ-loop)
@@ -63,27 +63,15 @@ loop-again c =
     let h = turn (c .before .before .before) .0 in
     let s = c .before .before .before .before .before .loop .inv in
     ⊎-elim
-    (λ w. rw (w .1, w .2, c .before .before .mark .ensures) (sorting-in In _ _ _ _ _ h s (w .0 .taken)))
-    (λ w. rw (w .1, w .2, c .before .before .mark .ensures) (sorting-out In _ _ _ _ _ h s (w .0 .left)))
+    (λ w. rw (w .1, c .before .before .mark .ensures) (sorting-in In _ _ _ _ h s (w .0 .taken)))
+    (λ w. rw (w .1, c .before .before .mark .ensures) (sorting-out In _ _ _ _ h s (w .0 .left)))
     (c .if1 .came)
-
--- after the loop nothing is left
-sorted : (c : tie.After-loop Inv-loop μ-loop)
-    → Sorting (Inside (c .before .before .before .args .sets .now) (c .before .before .before .args .to) (c .before .before .known .result))
-    (bitXor (c .before .before .before .args .there) (bitAnd (c .before .before .before .args .there) (c .before .before .before .args .n))) 0
-    (c .before .loop .ground) (c .before .loop .any)
-sorted c = let z : c .before .loop .left ≡ 0 = omega arith in rw z at (c .before .loop .inv)
 
 returns : tie.Need-returns Inv-loop μ-loop
 returns c =
-    let a = c .before .before .before .before .args in
-    marked-of-ground (a .sets .now) (a .from) (a .m) (a .here) (a .to) (a .n) (a .there) _ _ (c .before .before .before .known .ensures) (sorted (c .before) .ins)
-
-returns-2 : tie.Need-returns-2 Inv-loop μ-loop
-returns-2 c =
-    let a = c .before .before .before .before .args in
-    let k = c .before .before .before .known .result in
-    absurd (c .if2 .left (just-one-side (Inside (a .sets .now) (a .to) k) _ _ _ (inside-decided (a .sets .now) (a .to) k) (sorted (c .before))))
+    let a = c .before .before .before .args in
+    let z : c .before .loop .left ≡ 0 = omega arith in
+    marked-of-ground (a .sets .now) (a .from) (a .m) (a .here) (a .to) (a .n) (a .there) _ _ (c .before .before .known .ensures) (rw z at (c .before .loop .inv .sorted))
 
 pub pass-on-spec : {M : Type 1} → statement M
 pass-on-spec =
@@ -101,5 +89,4 @@ pass-on-spec =
     sub-left
     loop-less
     loop-again
-    returns
-    returns-2)
+    returns)
