@@ -5,11 +5,11 @@ use directory::layout::CLAUSE_VARS;
 use directory::layout::PREDICATE_SHAPE;
 use directory::layout::SHAPE_NEXT;
 use directory::layout::SHAPE_VARS;
+use marks::pass::pass_on;
 use rows::maskset::insert;
 use rows::row::before_at;
 use rows::row::mask_at;
 use steps::meet::first_variables;
-use steps::meet::passed;
 use steps::place::Round;
 use steps::place::emit;
 use steps::unifiers::meet_noting;
@@ -52,7 +52,7 @@ pub fn emit_shape(
     let mut link = newest;
     while since < link {
         let row = link - 1;
-        let q = passed(sets, 0, mask_at(table, row), here, 16, there);
+        let q = pass_on(sets, 0, mask_at(table, row), here, 16, 0, there);
         rows = emit(dir, order, count, table, buckets, rows, at, j, q);
         if room < rows {
             return rows;
@@ -79,7 +79,10 @@ fn mark_shape(
     let mut link = newest;
     while since < link {
         let row = link - 1;
-        insert(found, passed(sets, 0, mask_at(table, row), here, 16, there));
+        insert(
+            found,
+            pass_on(sets, 0, mask_at(table, row), here, 16, 0, there),
+        );
         link = before_at(table, row);
     }
 }

@@ -4,6 +4,7 @@ use directory::layout::BODY_START;
 use directory::layout::PREDICATE_SHAPE;
 use directory::layout::SHAPE_NEXT;
 use directory::layout::SHAPE_VARS;
+use marks::pass::pass_on;
 use marks::variables::variables_of;
 use rows::maskset::insert;
 use rows::row::MAX_ROWS;
@@ -11,7 +12,6 @@ use rows::row::before_at;
 use rows::row::mask_at;
 use steps::meet::first_variables;
 use steps::meet::meet;
-use steps::meet::passed;
 use steps::place::SOLUTIONS;
 use terms::walk::wide;
 ghost use mathlib.Core.Path.{_≡_};
@@ -52,7 +52,7 @@ fn of_shape(
     let mut link = newest;
     while from < link {
         let row = link - 1;
-        let mask = passed(sets, 0, mask_at(table, row), here, 16, there);
+        let mask = pass_on(sets, 0, mask_at(table, row), here, 16, 0, there);
         if row < since {
             older -= 1;
             answers[older] = mask;

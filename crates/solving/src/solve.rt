@@ -1,4 +1,5 @@
 // Rule 3: "For *every* call row whose shape unifies with H, H passes its marks to that shape, which keeps the call's own marks."
+use marks::pass::pass_on;
 use marks::rows::together;
 use rows::maskset::contains;
 use rows::maskset::insert;
@@ -6,7 +7,6 @@ use rows::row::before_at;
 use rows::row::mask_at;
 use rows::store::add;
 use rows::zeros::clear;
-use steps::meet::passed;
 use steps::place::Round;
 use terms::walk::narrow;
 use terms::walk::wide;
@@ -115,7 +115,7 @@ fn solve_marks(
     let mut q = 0;
     while q < marks {
         if contains(found, narrow(q)) {
-            let r = passed(sets, 16, narrow(q), there, 0, here);
+            let r = pass_on(sets, 16, narrow(q), there, 0, 0, here);
             if first_passed(solved, here, r) {
                 rows = solve_calls(table, buckets, rows, at, newest, slot, r, from, solved);
                 if room < rows {

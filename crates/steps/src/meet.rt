@@ -4,7 +4,6 @@ use directory::layout::FUNCTIONS_START;
 use directory::layout::PREDICATES_START;
 use directory::layout::SHAPE_CELLS;
 use directory::layout::SHAPE_START;
-use marks::pass::pass_on;
 use terms::sets::sets_of;
 use terms::unifier::NO_PLACE;
 use terms::unifier::unify;
@@ -16,7 +15,6 @@ ghost use lib.ListN.{length};
 ghost use Rattle.terms.specs.Mask.{Marks};
 ghost use Rattle.terms.specs.Term.{Term};
 ghost use Rattle.marks.specs.Modes.{InOrder};
-ghost use Rattle.marks.specs.Passing.{MarkedIn};
 ghost use Rattle.program.specs.Shapes.{number};
 ghost use Rattle.steps.specs.Parts.{shapeRun, ShapeIn, functionsRun, FunctionsIn};
 ghost use Rattle.steps.specs.Situation.{Meeting, Unifying, Met, MetStore, MetBindings, AnAtom, AtomRun};
@@ -103,14 +101,6 @@ pub fn meet_stored<'a>(
     let arities = functions_run(words, dir);
     let end = start + cells;
     sets_of(run, &words[start..end], arities, places, sets);
-}
-
-// The marks that pass to an atom that has none of its own.
-pub fn passed(sets: &[u32; 32], from: usize, m: u16, here: u16, to: usize, there: u16) -> u16
-    requires { ⌜ (from ≤ 16) × (to ≤ 16) ⌝ }
-    ensures { λ r. ⌜ (r < 65536) × Marks (MarkedIn (now (sets .entry)) from m here to 0 there) r ⌝ }
-{
-    pass_on(sets, from, m, here, to, 0, there)
 }
 
 // The marks of the first so many variables.

@@ -28,8 +28,8 @@ mask-at-requires c κs =
     let (asked, writable, behind) = c .before .before .before .before .before .before .pre in
     walking-there asked _ _ _ _ behind (c .before .before .loop .inv .2 asked) _ (omega (arith, c .before .loop-test .taken))
 
-passed-requires : tie.Need-passed-requires Inv-loop μ-loop
-passed-requires c κs = search needs
+pass-on-requires : tie.Need-pass-on-requires Inv-loop μ-loop
+pass-on-requires c κs = search needs
 
 emit-requires : tie.Need-emit-requires Inv-loop μ-loop
 emit-requires c κs =
@@ -48,9 +48,9 @@ returns c =
     λ a.
     let taken = c .before .before .before .before .before .before .before .before .before .before .before .loop-test .taken in
     let w = c .before .before .before .before .before .before .before .before .before .before .before .before .loop .inv .2 a in
-    let marks = rw (c .before .before .before .before .before .before .before .before .before .mask-at .ensures) at (c .before .before .before .before .before .before .before .before .passed .ensures .1) in
-    walking-full a _ _ _ _ (c .before .before .before .before .before .before .before .before .before .before .before .before .before .before .before .before .pre .2) w (c .before .before .before .before .before .before .before .before .before .before .before .before .loop .link - 1) (omega arith) (c .before .before .before .before .before .before .before .before .passed .result) (omega arith) marks
-    (c .before .before .before .before .before .emit .ensures (a .place) (walking-reached a _ _ _ _ (c .before .before .before .before .before .before .before .before .before .before .before .before .before .before .before .before .pre .2) w (c .before .before .before .before .before .before .before .before .before .before .before .before .loop .link - 1) (omega arith) (c .before .before .before .before .before .before .before .before .passed .result) (omega arith) marks))
+    let marks = rw (c .before .before .before .before .before .before .before .before .before .mask-at .ensures) at (c .before .before .before .before .before .before .before .before .pass-on .ensures) in
+    walking-full a _ _ _ _ (c .before .before .before .before .before .before .before .before .before .before .before .before .before .before .before .before .pre .2) w (c .before .before .before .before .before .before .before .before .before .before .before .before .loop .link - 1) (omega arith) (c .before .before .before .before .before .before .before .before .pass-on .result) (omega arith) marks
+    (c .before .before .before .before .before .emit .ensures (a .place) (walking-reached a _ _ _ _ (c .before .before .before .before .before .before .before .before .before .before .before .before .before .before .before .before .pre .2) w (c .before .before .before .before .before .before .before .before .before .before .before .before .loop .link - 1) (omega arith) (c .before .before .before .before .before .before .before .before .pass-on .result) (omega arith) marks))
     (c .if1 .taken) _
 
 before-at-requires : tie.Need-before-at-requires Inv-loop μ-loop
@@ -64,9 +64,9 @@ loop-less c =
     let (asked, writable, behind) = c .before .before .before .before .before .before .before .before .before .before .before .before .before .before .before .before .before .before .pre in
     let taken = c .before .before .before .before .before .before .before .before .before .before .before .before .before .loop-test .taken in
     let w = c .before .before .before .before .before .before .before .before .before .before .before .before .before .before .loop .inv .2 asked in
-    let marks = rw (c .before .before .before .before .before .before .before .before .before .before .before .mask-at .ensures) at (c .before .before .before .before .before .before .before .before .before .before .passed .ensures .1) in
-    walking-nearer asked _ _ _ _ behind w (c .before .before .before .before .before .before .before .before .before .before .before .before .before .before .loop .link - 1) (omega arith) (c .before .before .before .before .before .before .before .before .before .before .passed .result) (omega arith) marks
-    (c .before .before .before .before .before .before .before .emit .ensures (asked .place) (walking-reached asked _ _ _ _ behind w (c .before .before .before .before .before .before .before .before .before .before .before .before .before .before .loop .link - 1) (omega arith) (c .before .before .before .before .before .before .before .before .before .before .passed .result) (omega arith) marks))
+    let marks = rw (c .before .before .before .before .before .before .before .before .before .before .before .mask-at .ensures) at (c .before .before .before .before .before .before .before .before .before .before .pass-on .ensures) in
+    walking-nearer asked _ _ _ _ behind w (c .before .before .before .before .before .before .before .before .before .before .before .before .before .before .loop .link - 1) (omega arith) (c .before .before .before .before .before .before .before .before .before .before .pass-on .result) (omega arith) marks
+    (c .before .before .before .before .before .before .before .emit .ensures (asked .place) (walking-reached asked _ _ _ _ behind w (c .before .before .before .before .before .before .before .before .before .before .before .before .before .before .loop .link - 1) (omega arith) (c .before .before .before .before .before .before .before .before .before .before .pass-on .result) (omega arith) marks))
     (c .before .before .if1 .left) _ (c .before-at .ensures)
 
 loop-again : tie.Need-loop-again Inv-loop μ-loop
@@ -77,9 +77,9 @@ loop-again c = (
       let taken = c .before .before .before .before .before .before .before .before .before .before .before .before .before .loop-test .taken in
       let behind = c .before .before .before .before .before .before .before .before .before .before .before .before .before .before .before .before .before .before .pre .2 in
       let w = c .before .before .before .before .before .before .before .before .before .before .before .before .before .before .loop .inv .2 a in
-      let marks = rw (c .before .before .before .before .before .before .before .before .before .before .before .mask-at .ensures) at (c .before .before .before .before .before .before .before .before .before .before .passed .ensures .1) in
-      walking-on a _ _ _ _ behind w (c .before .before .before .before .before .before .before .before .before .before .before .before .before .before .loop .link - 1) (omega arith) (c .before .before .before .before .before .before .before .before .before .before .passed .result) (omega arith) marks
-      (c .before .before .before .before .before .before .before .emit .ensures (a .place) (walking-reached a _ _ _ _ behind w (c .before .before .before .before .before .before .before .before .before .before .before .before .before .before .loop .link - 1) (omega arith) (c .before .before .before .before .before .before .before .before .before .before .passed .result) (omega arith) marks))
+      let marks = rw (c .before .before .before .before .before .before .before .before .before .before .before .mask-at .ensures) at (c .before .before .before .before .before .before .before .before .before .before .pass-on .ensures) in
+      walking-on a _ _ _ _ behind w (c .before .before .before .before .before .before .before .before .before .before .before .before .before .before .loop .link - 1) (omega arith) (c .before .before .before .before .before .before .before .before .before .before .pass-on .result) (omega arith) marks
+      (c .before .before .before .before .before .before .before .emit .ensures (a .place) (walking-reached a _ _ _ _ behind w (c .before .before .before .before .before .before .before .before .before .before .before .before .before .before .loop .link - 1) (omega arith) (c .before .before .before .before .before .before .before .before .before .before .pass-on .result) (omega arith) marks))
       (c .before .before .if1 .left) _ (c .before-at .ensures),
 )
 
@@ -101,7 +101,7 @@ emit-shape-spec =
     loop-holds
     sub-row
     mask-at-requires
-    passed-requires
+    pass-on-requires
     emit-requires
     same-length
     same-length-2

@@ -27,8 +27,8 @@ mask-at-requires c κs =
     let asked = c .before .before .before .before .before .pre .0 in
     marking-there asked _ (c .before .before .loop .inv .1 asked) _ (omega (arith, c .before .loop-test .taken))
 
-passed-requires : tie.Need-passed-requires Inv-loop μ-loop
-passed-requires c κs = search needs
+pass-on-requires : tie.Need-pass-on-requires Inv-loop μ-loop
+pass-on-requires c κs = search needs
 
 insert-requires : tie.Need-insert-requires Inv-loop μ-loop
 insert-requires c κs = c .before .before .before .before .loop .inv .0 ∙ c .before .before .before .before .before .before .before .pre .1
@@ -49,7 +49,7 @@ loop-again c = (
   λ a.
       let taken = c .before .before .before .before .before .before .before .loop-test .taken in
       marking-on a _ (c .before .before .before .before .before .before .before .before .loop .inv .1 a) (c .before .before .before .before .before .before .before .before .loop .link - 1) (omega arith) _ _ (c .before .before .before .insert .result) _ (omega arith)
-      (rw (c .before .before .before .before .before .mask-at .ensures) at (c .before .before .before .before .passed .ensures .1)) (c .before .before .before .insert .kept .0) (c .before .before .before .insert .ensures) (c .before-at .ensures),
+      (rw (c .before .before .before .before .before .mask-at .ensures) at (c .before .before .before .before .pass-on .ensures)) (c .before .before .before .insert .kept .0) (c .before .before .before .insert .ensures) (c .before-at .ensures),
 )
 
 same-length : tie.Need-same-length Inv-loop μ-loop
@@ -67,7 +67,7 @@ mark-shape-spec =
     loop-holds
     sub-row
     mask-at-requires
-    passed-requires
+    pass-on-requires
     insert-requires
     before-at-requires
     loop-less

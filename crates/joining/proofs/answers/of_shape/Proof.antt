@@ -1,5 +1,6 @@
 -- `of_shape` meets its contract: the answers of the rows behind the link stand in the list. The measure is the link, which falls to an earlier row.
 -- Assumes nothing.
+use Prim.Native.Nat.{_<_}
 use native.Mathlib.Omega.{arith}
 use borrow.Author.Needs.{needs}
 use mathlib.Core.Path.{sym, _∙_}
@@ -28,8 +29,8 @@ mask-at-requires c κs =
     let w = c .before .before .before .before .before .pre in
     row-read (w .shape) (c .before .loop .inv w) (c .loop-test .taken)
 
-passed-requires : tie.Need-passed-requires Inv-loop μ-loop
-passed-requires c κs = search needs
+pass-on-requires : tie.Need-pass-on-requires Inv-loop μ-loop
+pass-on-requires c κs = search needs
 
 sub-older : tie.Need-sub-older Inv-loop μ-loop
 sub-older c =
@@ -87,8 +88,8 @@ loop-again : tie.Need-loop-again Inv-loop μ-loop
 loop-again c =
     let at = c .before .before .before .before in
     let next-is = c .before-at .ensures in
-    let small = c .before .before .passed .ensures .0 in
-    let passes = rw (c .before .before .before .mask-at .ensures) at (c .before .before .passed .ensures .1) in
+    let small : c .before .before .pass-on .result < 65536 = omega arith in
+    let passes = rw (c .before .before .before .mask-at .ensures) at (c .before .before .pass-on .ensures) in
     λ w. ⊎-elim
     (λ v. walking-as next-is (v .1) (v .2) (v .3) (v .4) (walking-older (w .shape) (at .before .loop .inv w) (at .loop-test .taken) passes small (v .0 .taken)))
     (⊎-elim
@@ -118,7 +119,7 @@ of-shape-spec =
     loop-holds
     sub-row
     mask-at-requires
-    passed-requires
+    pass-on-requires
     sub-older
     mul-answers
     slice-write-answers

@@ -34,8 +34,8 @@ contains-requires c κs = omega (arith, c .narrow .ensures, c .before .loop-test
 narrow-requires-2 : tie.Need-narrow-requires-2 Inv-loop μ-loop
 narrow-requires-2 c κs = omega (arith, c .before .before .before .loop-test .taken, c .before .before .before .before .before .before .before .before .before .pre .0 .found-for .few)
 
-passed-requires : tie.Need-passed-requires Inv-loop μ-loop
-passed-requires c κs = (omega arith, omega arith)
+pass-on-requires : tie.Need-pass-on-requires Inv-loop μ-loop
+pass-on-requires c κs = (omega arith, omega arith)
 
 first-passed-requires : tie.Need-first-passed-requires Inv-loop μ-loop
 first-passed-requires c κs = c .before .before .before .before .before .before .before .loop .inv .0
@@ -45,7 +45,7 @@ solve-calls-requires c κs =
     let (asked, writable, l, size, none) = c .before .before .before .before .before .before .before .before .before .before .before .before .before .before .before .before .before .before .before .pre in
     let t = c .before .before .before .before .before .before .before .before .before .before .before .before .before .before .loop .inv .1 (asked .to) (asked .shape-sets) (asked .found-for) in
     let in-set = c .before .before .before .before .before .before .before .before .before .before .before .contains .ensures .0 (rw (c .before .before .before .before .before .before .before .before .before .before .if1 .taken) tt) in
-    let passes = set-passes (asked .to) (asked .shape-sets) (asked .found-for) _ _ _ _ (c .before .before .before .before .before .before .before .before .before .before .before .before .narrow .ensures) in-set (c .before .before .before .before .before .before .before .before .before .narrow2 .ensures) (c .before .before .before .before .before .before .before .before .passed .ensures .1) in (
+    let passes = set-passes (asked .to) (asked .shape-sets) (asked .found-for) _ _ _ _ (c .before .before .before .before .before .before .before .before .before .before .before .before .narrow .ensures) in-set (c .before .before .before .before .before .before .before .before .before .narrow2 .ensures) (c .before .before .before .before .before .before .before .before .pass-on .ensures) in (
       calls-asked (asked .to) _ (asked .shape-sets .shape-variables) _ _ _ _ _ _ _ _ _ _ _ t _ _ _ (rw (c .before .before .before .before .before .before .before .before .before .before .before .before .narrow .ensures) at in-set) passes (c .before .before .before .before .before .before .first-passed .ensures) l,
       t .grew .writable,
       omega (arith, l, t .grew .more),
@@ -69,7 +69,7 @@ returns : tie.Need-returns Inv-loop μ-loop
 returns c = λ w unified set.
     let l = c .before .before .before .before .before .before .before .before .before .before .before .before .before .before .before .before .before .before .before .before .before .before .before .before .before .before .before .pre .2 in
     let in-set = c .before .before .before .before .before .before .before .before .before .before .before .before .before .before .before .before .before .before .before .contains .ensures .0 (rw (c .before .before .before .before .before .before .before .before .before .before .before .before .before .before .before .before .before .before .if1 .taken) tt) in
-    let passes = set-passes w unified set _ _ _ _ (c .before .before .before .before .before .before .before .before .before .before .before .before .before .before .before .before .before .before .before .before .narrow .ensures) in-set (c .before .before .before .before .before .before .before .before .before .before .before .before .before .before .before .before .before .narrow2 .ensures) (c .before .before .before .before .before .before .before .before .before .before .before .before .before .before .before .before .passed .ensures .1) in
+    let passes = set-passes w unified set _ _ _ _ (c .before .before .before .before .before .before .before .before .before .before .before .before .before .before .before .before .before .before .before .before .narrow .ensures) in-set (c .before .before .before .before .before .before .before .before .before .before .before .before .before .before .before .before .before .narrow2 .ensures) (c .before .before .before .before .before .before .before .before .before .before .before .before .before .before .before .before .pass-on .ensures) in
     let t = c .before .before .before .before .before .before .before .before .before .before .before .before .before .before .before .before .before .before .before .before .before .before .loop .inv .1 w unified set in
     through-full w _ (unified .shape-variables) _ _ _ _ _ _ _ _ _ _ _ t _ _ _ (rw (c .before .before .before .before .before .before .before .before .before .before .before .before .before .before .before .before .before .before .before .before .narrow .ensures) at in-set) passes (c .before .before .before .before .before .before .before .before .before .before .before .before .before .before .first-passed .ensures) l _ _ _ (c .before .before .before .before .before .before .before .solve-calls .last .1 .1 .1 .1 .1 .1 .1 .1 .0) (c .before .before .before .before .before .before .before .solve-calls .ensures .0 (calls-asked w _ (unified .shape-variables) _ _ _ _ _ _ _ _ _ _ _ t _ _ _ (rw (c .before .before .before .before .before .before .before .before .before .before .before .before .before .before .before .before .before .before .before .before .narrow .ensures) at in-set) passes (c .before .before .before .before .before .before .before .before .before .before .before .before .before .before .first-passed .ensures) l)) (c .if3 .taken)
 
@@ -93,7 +93,7 @@ passed-on c =
       z .11 .kept .1 .1 .1 .1 .1 .1 .1 .1 .0 ∙ z .4 .kept .0 ∙ c .before .before .before .before .loop .inv .0,
       λ w unified set.
           let t = c .before .before .before .before .loop .inv .1 w unified set in
-          let passes = set-passes w unified set _ _ _ _ (c .before .before .narrow .ensures) in-set (z .1 .ensures) (z .2 .ensures .1) in
+          let passes = set-passes w unified set _ _ _ _ (c .before .before .narrow .ensures) in-set (z .1 .ensures) (z .2 .ensures) in
           through-on w _ (unified .shape-variables) _ _ _ _ _ _ _ _ _ _ _ t _ _ _ (rw (c .before .before .narrow .ensures) at in-set) passes (z .4 .ensures) l _ _ _ _ (z .11 .ensures .0 (calls-asked w _ (unified .shape-variables) _ _ _ _ _ _ _ _ _ _ _ t _ _ _ (rw (c .before .before .narrow .ensures) at in-set) passes (z .4 .ensures) l)) (z .11 .ensures .1 (calls-asked w _ (unified .shape-variables) _ _ _ _ _ _ _ _ _ _ _ t _ _ _ (rw (c .before .before .narrow .ensures) at in-set) passes (z .4 .ensures) l)) (asked .from-within) (z .18 .left),
     ))
     (⊎-elim
@@ -102,7 +102,7 @@ passed-on c =
     rw (z .8, z .9, z .10, z .11) (
       z .4 .kept .0 ∙ c .before .before .before .before .loop .inv .0,
       λ w unified set.
-          let passes = set-passes w unified set _ _ _ _ (c .before .before .narrow .ensures) in-set (z .1 .ensures) (z .2 .ensures .1) in
+          let passes = set-passes w unified set _ _ _ _ (c .before .before .narrow .ensures) in-set (z .1 .ensures) (z .2 .ensures) in
           through-again w _ (unified .shape-variables) _ _ _ _ _ _ _ _ _ _ _ (c .before .before .before .before .loop .inv .1 w unified set) _ _ _ (rw (c .before .before .narrow .ensures) at in-set) passes (z .4 .ensures) (λ f. rw (z .7 .left) at f),
     ))
     (λ z. rw (z .1, z .2, z .3, z .4) (
@@ -144,7 +144,7 @@ solve-marks-spec =
     narrow-requires
     contains-requires
     narrow-requires-2
-    passed-requires
+    pass-on-requires
     first-passed-requires
     solve-calls-requires
     same-length
