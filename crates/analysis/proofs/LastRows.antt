@@ -8,17 +8,19 @@ use mathlib.Core.List.{List, [], _∷_, _++_, List·Memᴰ, List·Memᴰ·head, 
 use lib.ListN.{length, getD, length-append}
 use Rattle.marks.specs.Modes.{modes}
 use Rattle.program.specs.Program.{Nth, here, Program}
+use Rattle.program.specs.Limits.{rowSize}
 use Rattle.program.proofs.ShapeLaws.{nth-same}
 use Rattle.program.proofs.ProgramWords.{sound-within}
 use Rattle.program.proofs.Nths.{nth-below, nth-left, nth-right}
-use Rattle.rows.specs.Rows.{rowSize, roundAt, slotAt, maskAt, keyAt}
+use Rattle.rows.specs.Rows.{roundAt, slotAt, maskAt, keyAt}
 use Rattle.order.specs.Ordered.{orderAt, Sorted}
 use Rattle.rows.proofs.Keys.{key-slot, key-mask, key-listed, listed-key}
 use Rattle.order.proofs.Sorting.{key-before, reordered-keys, reordered-distinct, ascending-strictly}
 use Rattle.table.specs.Rules.{Row}
 use Rattle.table.specs.Rounds.{At, First}
-use Rattle.table.specs.Table.{Entry, entryWords, Ascending, Before, TableOf, mask}
-use Rattle.table.specs.Keys.{keyOf, rowOf, slotOf, Few, Regular}
+use Rattle.table.specs.Table.{Entry, entryWords, Ascending, TableOf, mask}
+use Rattle.table.specs.Analysis.{Before}
+use Rattle.table.specs.Keys.{rowKey, rowOf, slotOf, Few, Regular}
 use Rattle.table.specs.RoundKeys.{Rounded}
 use Rattle.table.proofs.RoundLaws.{rounds-grow, first-once}
 use Rattle.table.proofs.ShapeVariables.{within-few}
@@ -90,7 +92,7 @@ module _ (words dir : List ℕ) (p : Program) (setting : Setting words dir p) (t
   T = At modes p (p .ground) (complete .last)
 
   -- each row in the new order is one of the last round
-  row-there : (r : ℕ) → r < n → T (rowOf p (keyAt table′ r)) × (keyOf p (rowOf p (keyAt table′ r)) ≡ keyAt table′ r)
+  row-there : (r : ℕ) → r < n → T (rowOf p (keyAt table′ r)) × (rowKey p (rowOf p (keyAt table′ r)) ≡ keyAt table′ r)
   row-there r l =
       keyed-row words p (setting .accepted) T (complete .last) (keyAt table′ r) (λ _ x. x)
       (complete .keys .each (keyAt table′ r) .0 (reordered-keys table table′ n (sorted .reordered) (keyAt table′ r) .0 (key-listed table′ n r l)))
@@ -123,7 +125,7 @@ module _ (words dir : List ℕ) (p : Program) (setting : Setting words dir p) (t
       key-small x = omega (arith, small (rowSize * x + 1), small (rowSize * x + 2))
 
       at : Dec (roundAt table′ r ≡ roundAt table′ q)
-          → (roundAt table′ r < roundAt table′ q) ⊎ ((roundAt table′ r ≡ roundAt table′ q) × (keyOf p (rowOf p (keyAt table′ r)) < keyOf p (rowOf p (keyAt table′ q))))
+          → (roundAt table′ r < roundAt table′ q) ⊎ ((roundAt table′ r ≡ roundAt table′ q) × (rowKey p (rowOf p (keyAt table′ r)) < rowKey p (rowOf p (keyAt table′ q))))
       at (yes e) = inr (e, rw (row-there r (omega arith) .1, row-there q b .1) (omega (arith, less)))
       at (no e) = inl (omega (arith, less, key-small r, key-small q))
 
@@ -136,8 +138,8 @@ module _ (words dir : List ℕ) (p : Program) (setting : Setting words dir p) (t
       from : (e .round ≤ complete .last) × First modes p (p .ground) (e .round) (e .row) → List·Memᴰ e (entriesOf p table′ n)
       from (l, f) =
           let a = rounds-grow modes p (p .ground) (complete .last) (e .round) l (e .row) (f .0) in
-          let m = reordered-keys table table′ n (sorted .reordered) (keyOf p (e .row)) .1 (complete .keys .each (keyOf p (e .row)) .1 (e .row, a, refl)) in
-          let (r, b, k) = listed-key table′ n (keyOf p (e .row)) m in
+          let m = reordered-keys table table′ n (sorted .reordered) (rowKey p (e .row)) .1 (complete .keys .each (rowKey p (e .row)) .1 (e .row, a, refl)) in
+          let (r, b, k) = listed-key table′ n (rowKey p (e .row)) m in
           let row : rowOf p (keyAt table′ r) ≡ e .row = ap (rowOf p) k ∙ row-of-key p few (at-regular words p (setting .accepted) (complete .last) (e .row) a) in
           let g : First modes p (p .ground) (roundAt table′ r) (e .row) = rw row at (row-first r b) in
           let round : roundAt table′ r ≡ e .round = first-once modes p (p .ground) (roundAt table′ r) (e .round) (e .row) g f in

@@ -12,9 +12,10 @@ use Rattle.program.specs.Program.{Program}
 use Rattle.program.specs.Faults.{Found, fault, sound, faults, replyOf}
 use Rattle.program.specs.Reply.{done}
 use Rattle.program.specs.declared.reply.Reply.{Reply}
+use Rattle.program.specs.Limits.{rowSize}
 use Rattle.directory.specs.Directory.{Directory}
 use Rattle.table.specs.Promise.{faulty, listed}
-use Rattle.table.specs.Table.{rowSize, roomIn, MoreThan, Promise}
+use Rattle.table.specs.Table.{roomIn, MoreThan, Promise}
 use Rattle.steps.specs.Situation.{Setting}
 use Rattle.rounds.specs.Rounds.{Complete, Finished}
 use Rattle.analysis.specs.Finished.{InTable}

@@ -6,8 +6,9 @@ use mathlib.Core.List.{List, [], _∷_, _++_, append-assoc, append-nil}
 use lib.ListN.{length, getD, set, take, drop}
 use lib.Seq.{length-take-le, take-length, drop-cons, getD-append-add, getD-drop}
 use Rattle.program.specs.Program.{Nth, here, there, Program}
+use Rattle.program.specs.Limits.{rowSize}
 use Rattle.program.proofs.Nths.{below-nth}
-use Rattle.rows.specs.Rows.{rowSize, slotAt, maskAt}
+use Rattle.rows.specs.Rows.{slotAt, maskAt}
 use Rattle.table.specs.Rules.{Row, call, cont, solution}
 use Rattle.table.specs.Table.{Entry, rowWords, entryWords, tableWords, mask}
 use Rattle.table.specs.Keys.{Regular, regular-call, regular-cont, regular-solution, slotOf}

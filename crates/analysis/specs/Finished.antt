@@ -4,7 +4,8 @@ use mathlib.Core.Path.{_≡_}
 use mathlib.Core.List.{List, _++_}
 use lib.ListN.{length, replicate}
 use Rattle.program.specs.Program.{Program}
-use Rattle.table.specs.Table.{Entry, rowSize, tableWords, TableOf}
+use Rattle.program.specs.Limits.{rowSize}
+use Rattle.table.specs.Table.{Entry, tableWords, TableOf}
 use Rattle.steps.specs.Situation.{Setting}
 use Rattle.rounds.specs.Rounds.{Complete}
 

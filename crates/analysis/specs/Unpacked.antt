@@ -4,7 +4,8 @@ use mathlib.Core.Path.{_≡_}
 use mathlib.Core.List.{List}
 use lib.ListN.{length, set}
 use Rattle.program.specs.Program.{Nth, Program}
-use Rattle.rows.specs.Rows.{rowSize, roundAt, slotAt, maskAt}
+use Rattle.program.specs.Limits.{rowSize}
+use Rattle.rows.specs.Rows.{roundAt, slotAt, maskAt}
 use Rattle.table.specs.Rules.{Row, call, cont, solution}
 use Rattle.table.specs.Table.{Entry, mask}
 use Rattle.table.specs.Keys.{Regular, slotOf}

@@ -56,7 +56,7 @@ pub fn tabled(words: &[u16], dir: &mut [u16], table: &mut [u16]) -> Reply
     let mut answers = [0u16; 4096];
     let mut found = [0u16; 4096];
     let mut kept = [0u16; 2112];
-    let mut noted = [0u16; 1088];
+    let mut answered = [0u16; 1088];
     let room = room_in(table.len());
     directory(words, dir);
     let rows = rounds(
@@ -69,7 +69,7 @@ pub fn tabled(words: &[u16], dir: &mut [u16], table: &mut [u16]) -> Reply
         &mut answers,
         &mut found,
         &mut kept,
-        &mut noted,
+        &mut answered,
         room,
     );
     if room < rows {

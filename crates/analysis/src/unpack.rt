@@ -12,7 +12,7 @@ ghost use mathlib.Core.Path.{_≡_};
 ghost use mathlib.Core.List.{_++_};
 ghost use Prim.Native.Nat.{_+_, _*_, _<_};
 ghost use lib.ListN.{length, drop};
-ghost use Rattle.rows.specs.Rows.{rowSize};
+ghost use Rattle.program.specs.Limits.{rowSize};
 ghost use Rattle.table.specs.Table.{tableWords};
 ghost use Rattle.analysis.specs.Unpacked.{withWords, withRow, Packed};
 ghost use Rattle.concerns.specs.Standing.{Stands};

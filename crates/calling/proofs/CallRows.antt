@@ -12,8 +12,9 @@ use Rattle.marks.specs.Pass.{Pass}
 use Rattle.marks.specs.Passing.{MarkedIn}
 use Rattle.marks.proofs.PassedOn.{first-to-second}
 use Rattle.program.specs.Program.{Program}
+use Rattle.program.specs.Limits.{rowSize}
 use Rattle.program.proofs.Nths.{nth-below}
-use Rattle.rows.specs.Rows.{rowSize, slotAt, maskAt, beforeAt, keysOf}
+use Rattle.rows.specs.Rows.{slotAt, maskAt, beforeAt, keysOf}
 use Rattle.rows.specs.Chains.{Latest}
 use Rattle.table.specs.Rules.{call, Reached, first}
 use Rattle.table.specs.Steps.{Opens}

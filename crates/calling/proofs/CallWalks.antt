@@ -9,7 +9,8 @@ use Rattle.terms.specs.Mask.{Marks}
 use Rattle.marks.specs.Modes.{modes}
 use Rattle.marks.specs.Passing.{MarkedIn}
 use Rattle.program.specs.Program.{Program}
-use Rattle.rows.specs.Rows.{rowSize, slotAt, maskAt, beforeAt, keysOf}
+use Rattle.program.specs.Limits.{rowSize}
+use Rattle.rows.specs.Rows.{slotAt, maskAt, beforeAt, keysOf}
 use Rattle.rows.proofs.Adding.{same-mask}
 use Rattle.table.specs.Rules.{Reached}
 use Rattle.table.specs.RoundKeys.{Keyed}

@@ -23,7 +23,7 @@ use Rattle.directory.specs.Directory.{Stands-at, Link, predicateOf}
 use Rattle.table.specs.Steps.{opens}
 use Rattle.program.proofs.FoundLaws.{sound-same}
 use Rattle.steps.specs.Situation.{Situation, ClauseOf, HeadAsked}
-use Rattle.steps.specs.Heads.{ReachedSince, HeadMark, Marked, Told}
+use Rattle.steps.specs.Heads.{ReachedSince, HeadMark, Collected, Told}
 use Rattle.calling.specs.Calls.{OpenedBy, OpenedBelow, MarkShape}
 use Rattle.steps.proofs.ShapeLinks.{shapesLeft, next-link, links-fall}
 use Rattle.steps.proofs.MarkedSets.{marked-same, marked-none, marked-then}
@@ -72,7 +72,7 @@ module _ {words dir table heads : List ℕ} {since rows k : ℕ} (w : Situation 
       pub head-variables : VariablesOf (b .c .head) there
       pub from : ℕ
       pub next : Link (shapes p) predicate from link
-      pub marked : Marked (OpenedBelow p table since rows k predicate from) found found′
+      pub marked : Collected (OpenedBelow p table since rows k predicate from) found found′
       pub told : Told (OpenedBelow p table since rows k predicate from) any
 
     pub head-begins : (link : ℕ) → length found ≡ setWords → start ≡ getD dir (clauseHead + k) 0 → cells ≡ getD dir (clauseCells + k) 0
@@ -116,7 +116,7 @@ module _ {words dir table heads : List ℕ} {since rows k : ℕ} (w : Situation 
       head-nearer next e =
           rw e (links-fall (w .setting) (v .next) some)
 
-      pub head-on : {found″ : List ℕ} {any′ : Bool} → Marked (OpenedBy p table since rows k (link - 1)) found′ found″ → (T any → T any′)
+      pub head-on : {found″ : List ℕ} {any′ : Bool} → Collected (OpenedBy p table since rows k (link - 1)) found′ found″ → (T any → T any′)
           → Told (OpenedBy p table since rows k (link - 1)) any′ → (next : ℕ) → next ≡ getD dir (shapeNext + (link - 1)) 0 → HeadVisiting next found″ any′
       head-on {found″} m still told next e =
           record {
@@ -133,7 +133,7 @@ module _ {words dir table heads : List ℕ} {since rows k : ℕ} (w : Situation 
           same N = let o = below-next (w .setting) (b .nth-clause) table since rows (v .next) some N in (o .1, o .0)
 
     pub head-ends : {link : ℕ} {found′ : List ℕ} {any : Bool} → HeadVisiting link found′ any → link ≤ 0
-        → Marked (HeadMark p table since rows k 0) found found′ × Told (HeadMark p table since rows k 0) any
+        → Collected (HeadMark p table since rows k 0) found found′ × Told (HeadMark p table since rows k 0) any
     head-ends {link} {found′} v l = (
       marked-same found found′ (reached-head p table since rows (b .nth-clause))
           (marked-same found found′ (below-all (w .setting) (b .nth-clause) table since rows last) (v .marked)),

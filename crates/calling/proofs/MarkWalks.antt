@@ -3,14 +3,15 @@ use Prim.Native.Nat.{ℕ, suc, _+_, _*_, _≤_, _<_}
 use native.Mathlib.Omega.{arith}
 use mathlib.Core.Path.{_≡_, _∙_}
 use mathlib.Core.Bool.{Bool}
-use mathlib.Core.Logic.{_⊎_, inl, inr, ⊎-elim, _↔_}
+use mathlib.Core.Logic.{_⊎_, _↔_}
 use mathlib.Core.List.{List}
 use lib.ListN.{length}
 use Rattle.terms.specs.Mask.{Marks}
 use Rattle.marks.specs.Passing.{MarkedIn}
-use Rattle.rows.specs.Rows.{rowSize, slotAt, maskAt, beforeAt}
+use Rattle.program.specs.Limits.{rowSize}
+use Rattle.rows.specs.Rows.{slotAt, maskAt, beforeAt}
 use Rattle.rows.specs.MaskSet.{setWords, Inserted}
-use Rattle.steps.specs.Heads.{Marked}
+use Rattle.steps.specs.Heads.{Collected}
 use Rattle.calling.specs.Calls.{OpenedBy, OpenedFrom, MarkAsked}
 use Rattle.steps.proofs.MarkedSets.{marked-same, marked-none, marked-then, marked-one}
 use Rattle.calling.proofs.CallRows.{calls-newest, call-before, row-there, opened-none, opened-next, opened-all}
@@ -24,7 +25,7 @@ module _ {table sets : List ℕ} {newest here there since : ℕ} (a : MarkAsked 
   pub record Marking (link : ℕ) (found′ : List ℕ) : Type 0 where
     pub within : link ≤ a .rows
     pub own : (r : ℕ) → suc r ≡ link → slotAt table r ≡ a .calls .s
-    pub marked : Marked (From link) found found′
+    pub marked : Collected (From link) found found′
 
   pub marking-begins : length found ≡ setWords → Marking newest found
   marking-begins size =
@@ -54,5 +55,5 @@ module _ {table sets : List ℕ} {newest here there since : ℕ} (a : MarkAsked 
         same N = let o = opened-next (a .calls) link row next q at new row-below (w .own row at) e passes N in (o .1, o .0)
 
   pub marking-ends : {link : ℕ} {found′ : List ℕ} → Marking link found′ → link ≤ since
-      → Marked (OpenedBy (a .p) table since (a .rows) (a .k) (a .calls .s)) found found′
+      → Collected (OpenedBy (a .p) table since (a .rows) (a .k) (a .calls .s)) found found′
   marking-ends {link} {found′} w l = marked-same found found′ (opened-all (a .calls) link l) (w .marked)

@@ -9,8 +9,9 @@ use Rattle.terms.specs.Unifier.{Apart}
 use Rattle.terms.proofs.Masks.{marks-for}
 use Rattle.program.specs.Program.{Program}
 use Rattle.program.specs.Shapes.{shapes}
+use Rattle.program.specs.Limits.{maxShapes}
 use Rattle.program.proofs.Nths.{nth-below}
-use Rattle.directory.specs.Layout.{shapeVars, maxShapes, dirWords}
+use Rattle.directory.specs.Layout.{shapeVars, dirWords}
 use Rattle.directory.specs.Directory.{ShapeAt}
 use Rattle.table.proofs.ShapeVariables.{within-few}
 use Rattle.table.proofs.Steps.{opens-apart}

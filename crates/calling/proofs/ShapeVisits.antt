@@ -16,10 +16,11 @@ use Rattle.marks.specs.Modes.{modes}
 use Rattle.marks.specs.Passing.{VariablesOf}
 use Rattle.program.specs.Program.{Nth, Clause, Program}
 use Rattle.program.specs.Shapes.{shapes}
+use Rattle.program.specs.Limits.{maxShapes}
 use Rattle.program.proofs.ShapeLaws.{nth-same}
 use Rattle.program.proofs.Nths.{nth-below}
 use Rattle.rows.specs.Rows.{keysOf}
-use Rattle.directory.specs.Layout.{clauseHead, clauseCells, clauseVars, predicateShape, maxShapes, dirWords}
+use Rattle.directory.specs.Layout.{clauseHead, clauseCells, clauseVars, predicateShape, dirWords}
 use Rattle.directory.specs.Directory.{Stands-at, ClauseAt, Link, predicateOf}
 use Rattle.table.specs.Steps.{opens}
 use Rattle.table.specs.NewRows.{NewReached}

@@ -21,7 +21,7 @@ ghost use Rattle.rows.specs.Rows.{keysOf};
 ghost use Rattle.rows.specs.MaskSet.{setWords};
 ghost use Rattle.steps.specs.Situation.{Situation, HeadAsked};
 ghost use Rattle.steps.specs.Steps.{Writable, Stepped};
-ghost use Rattle.steps.specs.Heads.{HeadMark, Marked, Told};
+ghost use Rattle.steps.specs.Heads.{HeadMark, Collected, Told};
 ghost use Rattle.steps.specs.Unifiers.{Notes, HeadNotes};
 ghost use Rattle.calling.specs.Calls.{OpenedBy, Emits, EmitAsked, MarkAsked, MarkShape};
 
@@ -74,7 +74,7 @@ fn mark_shape(
 )
     requires { ⌜ MarkAsked (now table) (now sets) newest here there since × (length (now found) ≡ setWords) ⌝ }
     ensures { λ _. ⌜ ((a : MarkAsked (now (table .entry)) (now (sets .entry)) newest here there since)
-        → Marked (OpenedBy (a .p) (now (table .entry)) since (a .rows) (a .k) (a .calls .s)) (now (found .entry)) (now (found .exit))) ⌝ }
+        → Collected (OpenedBy (a .p) (now (table .entry)) since (a .rows) (a .k) (a .calls .s)) (now (found .entry)) (now (found .exit))) ⌝ }
 {
     let mut link = newest;
     while since < link {
@@ -105,7 +105,7 @@ fn marks_of_shape<'a>(
     requires { ⌜ MarkShape (now words) (now dir) (now table) (now heads) since s start cells there × (length (now found) ≡ setWords)
         × Notes (now words) (now dir) start cells (now unifiers) ⌝ }
     ensures { λ r. ⌜ ((a : MarkShape (now (words .entry)) (now (dir .entry)) (now (table .entry)) (now (heads .entry)) since s start cells there)
-        → Marked (OpenedBy (a .p) (now (table .entry)) since (a .rows) (a .k) s) (now (found .entry)) (now (found .exit))
+        → Collected (OpenedBy (a .p) (now (table .entry)) since (a .rows) (a .k) s) (now (found .entry)) (now (found .exit))
         × Told (OpenedBy (a .p) (now (table .entry)) since (a .rows) (a .k) s) r)
         × Notes (now (words .entry)) (now (dir .entry)) start cells (now (unifiers .exit)) ⌝ }
 {
@@ -138,7 +138,7 @@ pub fn mark_head<'a>(
     requires { ⌜ HeadAsked (now words) (now dir) (now table) (now heads) since rows k × (length (now found) ≡ setWords)
         × HeadNotes (now words) (now dir) k (now unifiers) ⌝ }
     ensures { λ r. ⌜ ((w : Situation (now (words .entry)) (now (dir .entry)) (now (table .entry)) (now (heads .entry)) since rows)
-        → Marked (HeadMark (w .p) (now (table .entry)) since rows k 0) (now (found .entry)) (now (found .exit))
+        → Collected (HeadMark (w .p) (now (table .entry)) since rows k 0) (now (found .entry)) (now (found .exit))
         × Told (HeadMark (w .p) (now (table .entry)) since rows k 0) r)
         × HeadNotes (now (words .entry)) (now (dir .entry)) k (now (unifiers .exit)) ⌝ }
 {

@@ -6,9 +6,9 @@ use native.Mathlib.Omega.{arith}
 use native.Mathlib.Numerals.{add-one}
 use lib.ListN.{length, take, drop, length-take, length-drop}
 use borrow.Author.Tests.{lt-ltb, le-ltb}
+use Rattle.program.specs.Lists.{between}
 use Rattle.text.specs.Line.{upTo, behind, tab}
 use Rattle.text.proofs.Cuts.{parts-from, part-within}
-use Rattle.cells.specs.Between.{between}
 
 -- the separator stands at `at`, and the field behind it ends at e
 module _ (line : List ℕ) (at e : ℕ) (h : at < length line) (ends : e ≡ at + 1 + length (upTo tab (drop (at + 1) line))) where

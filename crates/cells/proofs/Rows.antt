@@ -11,6 +11,7 @@ use borrow.Author.Tests.{lt-ltb, le-ltb, ltb-true}
 use Rattle.terms.specs.Cells.{variables}
 use Rattle.program.specs.Limits.{maxWords}
 use Rattle.program.specs.Reply.{tooSoon, follows}
+use Rattle.program.specs.Lists.{between}
 use Rattle.text.specs.Room.{inRoom}
 use Rattle.text.specs.Line.{upTo, parts, behind, tab}
 use Rattle.cells.proofs.FieldCuts.{field-within, field-length, behind-next}
@@ -19,7 +20,6 @@ use Rattle.cells.specs.declared.look.Look.the-variants.{Fault, Symbol, V
 use Rattle.cells.specs.declared.state.Progress.{Progress}
 use Rattle.cells.specs.declared.cells.Taken.{Taken}
 use Rattle.cells.specs.declared.cells.Taken.the-variants.{Fault as TakenFault, Next}
-use Rattle.cells.specs.Between.{between}
 use Rattle.cells.specs.Table.{Table, Read, wrong, right, next}
 use Rattle.cells.specs.declared.state.Counts.{Counts}
 use Rattle.cells.specs.Cells.{Row, noCells, lookOf, takenAt, withSymbol, withVariable, complete, cellsOf}

@@ -7,14 +7,15 @@ use mathlib.Core.Path.{_≡_, refl, _∙_}
 use mathlib.Core.List.{List, _++_, List·Memᴰ}
 use lib.ListN.{length, getD, set, take, drop, replicate}
 use Rattle.program.specs.Program.{Program}
+use Rattle.program.specs.Limits.{masks}
 use Rattle.directory.specs.Layout.{clauseVars}
-use Rattle.rows.specs.Rows.{masks, keysOf}
+use Rattle.rows.specs.Rows.{keysOf}
 use Rattle.rows.specs.MaskSet.{setWords, InSet}
 use Rattle.rows.proofs.ClearedMarks.{cleared-empty}
 use Rattle.table.proofs.Added.{behind-keeps}
 use Rattle.steps.specs.Steps.{Writable, Stepped}
 use Rattle.steps.specs.Situation.{HeadAsked}
-use Rattle.steps.specs.Heads.{HeadMark, Marked, FoundOn}
+use Rattle.steps.specs.Heads.{HeadMark, Collected, FoundOn}
 use Rattle.steps.proofs.Stepping.{keys-stay, grew-none, stepped-then, stepped-must, stepped-within}
 use Rattle.ends.specs.AtHead.{HeadGives}
 use Rattle.ends.specs.Ends.{WithHead}
@@ -32,7 +33,7 @@ kept-fits k l = (omega arith, omega arith)
 
 module _ (words dir table heads : List ℕ) (since rows k : ℕ) (w : HeadAsked words dir table heads since rows k) (kept : List ℕ) (n : ℕ) (keeps : Keeps words dir table kept rows n)
     (few : getD dir (clauseVars + k) 0 ≤ keptVars) (known : ℕ) (early : (known ≤ since) × (known ≤ knownOf kept k)) (found new : List ℕ)
-    (marked : Marked (HeadMark (w .situation .p) table known rows k (length (w .clause .c .body))) (replicate setWords 0) found) (unkept : Unkept kept k found new) where
+    (marked : Collected (HeadMark (w .situation .p) table known rows k (length (w .clause .c .body))) (replicate setWords 0) found) (unkept : Unkept kept k found new) where
   abbrev p : Program
   p = w .situation .p
 

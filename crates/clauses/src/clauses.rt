@@ -29,19 +29,19 @@ fn middle_places<'a>(
     heads: &[u16],
     seen: &mut [u16],
     answers: &mut [u16],
-    noted: &mut [u16],
+    answered: &mut [u16],
     n: usize,
     at: Round,
     first: usize,
     last: usize,
 ) -> usize
     requires { ⌜ MiddlesAsked (now words) (now dir) (now table) (now heads) (at .since) (at .rows) first last × Writable (now table) (now buckets) n (at .room) × (at .rows ≤ n)
-        × (now seen ≡ replicate setWords 0) × (length (now answers) ≡ 4096) × KeepsAnswers (now words) (now dir) (now table) (now noted) (at .rows) ⌝ }
+        × (now seen ≡ replicate setWords 0) × (length (now answers) ≡ 4096) × KeepsAnswers (now words) (now dir) (now table) (now answered) (at .rows) ⌝ }
     ensures { λ r. ⌜ (now (seen .exit) ≡ replicate setWords 0)
         × ((w : MiddlesAsked (now (words .entry)) (now (dir .entry)) (now (table .entry)) (now (heads .entry)) (at .since) (at .rows) first last)
         → Stepped (w .situation .p) (keysOf (now (table .entry)) (at .rows)) (at .number) (at .room) n (now (table .entry)) (now (buckets .entry))
         (PastPlaces (w .situation .p) (keysOf (now (table .entry)) (at .since)) (keysOf (now (table .entry)) (at .rows)) (w .k) (w .middles)) r (now (table .exit)) (now (buckets .exit)))
-        × (r ≤ at .room → KeepsAnswers (now (words .entry)) (now (dir .entry)) (now (table .exit)) (now (noted .exit)) (at .rows)) ⌝ }
+        × (r ≤ at .room → KeepsAnswers (now (words .entry)) (now (dir .entry)) (now (table .exit)) (now (answered .exit)) (at .rows)) ⌝ }
 {
     let room = at.room;
     let mut rows = n;
@@ -55,7 +55,7 @@ fn middle_places<'a>(
             heads,
             seen,
             answers,
-            noted,
+            answered,
             rows,
             at,
             j,
@@ -79,20 +79,20 @@ pub fn clause<'a>(
     answers: &mut [u16],
     found: &mut [u16],
     kept: &mut [u16],
-    noted: &mut [u16],
+    answered: &mut [u16],
     n: usize,
     at: Round,
     k: usize,
 ) -> usize
     requires { ⌜ HeadAsked (now words) (now dir) (now table) (now heads) (at .since) (at .rows) k × Writable (now table) (now buckets) n (at .room) × (at .rows ≤ n)
         × Scratch (now answers) (now found) × Keeps (now words) (now dir) (now table) (now kept) (at .rows) n
-        × KeepsAnswers (now words) (now dir) (now table) (now noted) (at .rows) × Room (now unifiers) ⌝ }
+        × KeepsAnswers (now words) (now dir) (now table) (now answered) (at .rows) × Room (now unifiers) ⌝ }
     ensures { λ r. ⌜ Scratch (now (answers .exit)) (now (found .exit))
         × ((w : HeadAsked (now (words .entry)) (now (dir .entry)) (now (table .entry)) (now (heads .entry)) (at .since) (at .rows) k)
         → Stepped (w .situation .p) (keysOf (now (table .entry)) (at .rows)) (at .number) (at .room) n (now (table .entry)) (now (buckets .entry))
         (Keyed (w .situation .p) (NewIn modes (w .situation .p) (RowsIn (w .situation .p) (keysOf (now (table .entry)) (at .since))) (RowsIn (w .situation .p) (keysOf (now (table .entry)) (at .rows))) k)) r (now (table .exit)) (now (buckets .exit)))
         × (r ≤ at .room → Keeps (now (words .entry)) (now (dir .entry)) (now (table .exit)) (now (kept .exit)) (at .rows) r)
-        × (r ≤ at .room → KeepsAnswers (now (words .entry)) (now (dir .entry)) (now (table .exit)) (now (noted .exit)) (at .rows)) ⌝ }
+        × (r ≤ at .room → KeepsAnswers (now (words .entry)) (now (dir .entry)) (now (table .exit)) (now (answered .exit)) (at .rows)) ⌝ }
 {
     let room = at.room;
     let first = wide(dir[CLAUSE_FIRST + k]);
@@ -107,7 +107,7 @@ pub fn clause<'a>(
             heads,
             found,
             answers,
-            noted,
+            answered,
             rows,
             at,
             first,
@@ -127,7 +127,7 @@ pub fn clause<'a>(
         answers,
         found,
         kept,
-        noted,
+        answered,
         rows,
         at,
         k,

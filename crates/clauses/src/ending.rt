@@ -27,20 +27,20 @@ pub fn end_clause<'a>(
     answers: &mut [u16],
     found: &mut [u16],
     kept: &mut [u16],
-    noted: &mut [u16],
+    answered: &mut [u16],
     n: usize,
     at: Round,
     k: usize,
 ) -> usize
     requires { ⌜ HeadAsked (now words) (now dir) (now table) (now heads) (at .since) (at .rows) k × Writable (now table) (now buckets) n (at .room) × (at .rows ≤ n)
         × Scratch (now answers) (now found) × Keeps (now words) (now dir) (now table) (now kept) (at .rows) n
-        × KeepsAnswers (now words) (now dir) (now table) (now noted) (at .rows) × Room (now unifiers) ⌝ }
+        × KeepsAnswers (now words) (now dir) (now table) (now answered) (at .rows) × Room (now unifiers) ⌝ }
     ensures { λ r. ⌜ Scratch (now (answers .exit)) (now (found .exit))
         × ((w : HeadAsked (now (words .entry)) (now (dir .entry)) (now (table .entry)) (now (heads .entry)) (at .since) (at .rows) k)
         → Stepped (w .situation .p) (keysOf (now (table .entry)) (at .rows)) (at .number) (at .room) n (now (table .entry)) (now (buckets .entry))
         (WithHead (w .situation .p) (keysOf (now (table .entry)) (at .since)) (keysOf (now (table .entry)) (at .rows)) k) r (now (table .exit)) (now (buckets .exit)))
         × (r ≤ at .room → Keeps (now (words .entry)) (now (dir .entry)) (now (table .exit)) (now (kept .exit)) (at .rows) r)
-        × (r ≤ at .room → KeepsAnswers (now (words .entry)) (now (dir .entry)) (now (table .exit)) (now (noted .exit)) (at .rows)) ⌝ }
+        × (r ≤ at .room → KeepsAnswers (now (words .entry)) (now (dir .entry)) (now (table .exit)) (now (answered .exit)) (at .rows)) ⌝ }
 {
     forget_notes(unifiers);
     if wide(dir[CLAUSE_VARS + k]) <= KEPT_VARS {
@@ -53,7 +53,7 @@ pub fn end_clause<'a>(
             answers,
             found,
             kept,
-            noted,
+            answered,
             unifiers,
             n,
             at,
@@ -68,7 +68,7 @@ pub fn end_clause<'a>(
         heads,
         answers,
         found,
-        noted,
+        answered,
         unifiers,
         n,
         at,

@@ -24,20 +24,20 @@ pub fn end_wide<'a>(
     heads: &[u16],
     answers: &mut [u16],
     found: &mut [u16],
-    noted: &mut [u16],
+    answered: &mut [u16],
     unifiers: &mut [u8],
     n: usize,
     at: Round,
     k: usize,
 ) -> usize
     requires { ⌜ HeadAsked (now words) (now dir) (now table) (now heads) (at .since) (at .rows) k × Writable (now table) (now buckets) n (at .room) × (at .rows ≤ n)
-        × Scratch (now answers) (now found) × KeepsAnswers (now words) (now dir) (now table) (now noted) (at .rows)
+        × Scratch (now answers) (now found) × KeepsAnswers (now words) (now dir) (now table) (now answered) (at .rows)
         × HeadNotes (now words) (now dir) k (now unifiers) ⌝ }
     ensures { λ r. ⌜ Scratch (now (answers .exit)) (now (found .exit))
         × ((w : HeadAsked (now (words .entry)) (now (dir .entry)) (now (table .entry)) (now (heads .entry)) (at .since) (at .rows) k)
         → Stepped (w .situation .p) (keysOf (now (table .entry)) (at .rows)) (at .number) (at .room) n (now (table .entry)) (now (buckets .entry))
         (WithHead (w .situation .p) (keysOf (now (table .entry)) (at .since)) (keysOf (now (table .entry)) (at .rows)) k) r (now (table .exit)) (now (buckets .exit)))
-        × (r ≤ at .room → KeepsAnswers (now (words .entry)) (now (dir .entry)) (now (table .exit)) (now (noted .exit)) (at .rows)) ⌝ }
+        × (r ≤ at .room → KeepsAnswers (now (words .entry)) (now (dir .entry)) (now (table .exit)) (now (answered .exit)) (at .rows)) ⌝ }
 {
     let before = at.rows;
     let mut since = at.since;
@@ -56,7 +56,7 @@ pub fn end_wide<'a>(
         before,
         k,
         found,
-        noted,
+        answered,
         unifiers,
     ) {
         marks = 1usize << wide(dir[CLAUSE_VARS + k]);

@@ -35,7 +35,7 @@ use Rattle.steps.proofs.BodyAtoms.{some-cells, predicate-there}
 use Rattle.steps.proofs.ShapeAtoms.{shape-is-atom}
 use Rattle.steps.proofs.SlotRows.{in-slot}
 use Rattle.concerns.specs.Standing.{Stands}
-use Rattle.concerns.specs.Active.{Concerns, by-call, by-cont, by-solution, Noted, HeadsNoted, BodiesNoted, ShapeAsked}
+use Rattle.concerns.specs.Active.{Concerns, by-call, by-cont, by-solution, Entered, HeadsEntered, BodiesEntered, ShapeAsked}
 
 -- a round looks at nothing in a clause that no new row concerns
 module _ {words dir : List ℕ} {p : Program} (s : Setting words dir p) (T₀ T : Row ℕ → Type 0) (k : ℕ)
@@ -86,10 +86,10 @@ row-there {table = table} w r l =
 pub shifted-bit : (k : ℕ) → k < 64 → 1 * 2 ^ k % 18446744073709551616 ≡ 2 ^ k
 shifted-bit k l = rw one-mul (mod-eq-of-lt (pow-lt {j = 64} l))
 
-pub noted-one : (sets : List ℕ) (q k : ℕ) → q < length sets → k < 64 → Noted sets (set sets q (bitOr (getD sets q 0) (1 * 2 ^ k % 18446744073709551616))) q k
-noted-one sets q k l few =
+pub entered-one : (sets : List ℕ) (q k : ℕ) → q < length sets → k < 64 → Entered sets (set sets q (bitOr (getD sets q 0) (1 * 2 ^ k % 18446744073709551616))) q k
+entered-one sets q k l few =
     record {
-      noted = rw (getD-set-same sets q (bitOr (getD sets q 0) (1 * 2 ^ k % 18446744073709551616)) 0 l, shifted-bit k few) (has-or (getD sets q 0) (2 ^ k) k .1 (inr (has-one k k .1 refl)));
+      entered = rw (getD-set-same sets q (bitOr (getD sets q 0) (1 * 2 ^ k % 18446744073709551616)) 0 l, shifted-bit k few) (has-or (getD sets q 0) (2 ^ k) k .1 (inr (has-one k k .1 refl)));
       kept = λ x v h. at x v h (ℕ-discrete x q);
     }
   where
@@ -190,20 +190,20 @@ module _ {words dir table : List ℕ} {r : ℕ} (w : Stands words dir table r) (
       at _ (regular-cont hc hA within small) e = absurd (omega (arith, few-bodies hc hA))
       at _ (regular-solution {s = n} {S = S} hs within small) e = let f : slot - 2050 ≡ n = omega arith in record { p = w .p; setting = w .setting; S = S; nth-shape = rw f hs }
 
-  pub call-concerns : (set : List ℕ) (q : ℕ) → ((a : ShapeAsked words dir slot) → q ≡ predicateOf (a .S)) → slot < 1025 → HeadsNoted (w .p) set → (k : ℕ)
+  pub call-concerns : (set : List ℕ) (q : ℕ) → ((a : ShapeAsked words dir slot) → q ≡ predicateOf (a .S)) → slot < 1025 → HeadsEntered (w .p) set → (k : ℕ)
       → Concerns (w .p) k (w .row) → Has (getD set q 0) k
-  call-concerns set q named l noted k h = at (w .row) (is ∙ w .slot) (w .regular) h
+  call-concerns set q named l entered k h = at (w .row) (is ∙ w .slot) (w .regular) h
     where
       at : (row : Row ℕ) → slot ≡ slotOf (w .p) row → Regular (w .p) row → Concerns (w .p) k row → Has (getD set q 0) k
       at _ e g (by-call {c = c} {S = S} hc hs same) =
           let f : q ≡ predicateOf (c .head) = named (record { p = w .p; setting = w .setting; S = S; nth-shape = rw e hs }) ∙ sym same in
-          rw f (noted k c hc)
+          rw f (entered k c hc)
       at _ e (regular-cont hc hA within small) by-cont = absurd (omega arith)
       at _ e g (by-solution hc hA hs same) = absurd (omega arith)
 
-  pub solution-concerns : (set : List ℕ) (q : ℕ) → ((a : ShapeAsked words dir (slot - 2050)) → q ≡ predicateOf (a .S)) → 2050 ≤ slot → BodiesNoted (w .p) set → (k : ℕ)
+  pub solution-concerns : (set : List ℕ) (q : ℕ) → ((a : ShapeAsked words dir (slot - 2050)) → q ≡ predicateOf (a .S)) → 2050 ≤ slot → BodiesEntered (w .p) set → (k : ℕ)
       → Concerns (w .p) k (w .row) → Has (getD set q 0) k
-  solution-concerns set q named l noted k h = at (w .row) (is ∙ w .slot) (w .regular) h
+  solution-concerns set q named l entered k h = at (w .row) (is ∙ w .slot) (w .regular) h
     where
       at : (row : Row ℕ) → slot ≡ slotOf (w .p) row → Regular (w .p) row → Concerns (w .p) k row → Has (getD set q 0) k
       at _ e g (by-call hc hs same) = absurd (omega (arith, few-shapes hs))
@@ -211,7 +211,7 @@ module _ {words dir table : List ℕ} {r : ℕ} (w : Stands words dir table r) (
       at _ e g (by-solution {i = i} {s = n} {c = c} {A = A} {S = S} hc hA hs same) =
           let d : slot - 2050 ≡ n = omega arith in
           let f : q ≡ predicateOf A = named (record { p = w .p; setting = w .setting; S = S; nth-shape = rw d hs }) ∙ sym same in
-          rw f (noted k i c A hc hA)
+          rw f (entered k i c A hc hA)
 
   pub cont-concerns : (k′ : ℕ) → ((b : BodyOf (w .p) (slot - 1025)) → k′ ≡ b .k) → 1025 ≤ slot → slot < 2050 → (k : ℕ) → Concerns (w .p) k (w .row) → (k′ ≡ k) × (k < 64)
   cont-concerns k′ named l l′ k h = at (w .row) (is ∙ w .slot) (w .regular) h

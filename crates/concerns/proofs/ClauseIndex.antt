@@ -1,4 +1,4 @@
--- The index of the clauses and the rows that are new, one after the other: what is noted stays, and one more is noted.
+-- The index of the clauses and the rows that are new, one after the other: what is entered stays, and one more is entered.
 use Prim.Native.Nat.{ℕ, suc, _+_, _-_, _≤_, _<_}
 use native.Mathlib.Omega.{arith}
 use native.Mathlib.Decide.{decLt, ℕ-discrete}
@@ -20,11 +20,11 @@ use Rattle.table.specs.Keys.{slotOf, Regular, bodyIndex}
 use Rattle.steps.specs.Situation.{Setting, Situation, BodyOf}
 use Rattle.steps.proofs.Bodies.{first-body, body-there}
 use Rattle.concerns.specs.Standing.{Stands}
-use Rattle.concerns.specs.Active.{Concerns, Noted, HeadsNoted, BodiesNoted}
+use Rattle.concerns.specs.Active.{Concerns, Entered, HeadsEntered, BodiesEntered}
 use Rattle.concerns.proofs.BodyClauses.{clause-found, clause-begun}
 use Rattle.concerns.proofs.ActiveClauses.{head-first, body-first}
 
--- the clauses below n are noted for their heads, and the body atoms below n
+-- the clauses below n are entered for their heads, and the body atoms below n
 abbrev pub HeadsBelow : Program → List ℕ → ℕ → Type 0
 HeadsBelow p set n = (k : ℕ) (c : Clause) → k < n → Nth (p .clauses) k c → Has (getD set (predicateOf (c .head)) 0) k
 
@@ -39,16 +39,16 @@ module _ {words dir : List ℕ} {p : Program} (s : Setting words dir p) where
   pub clause-at : (clauses k : ℕ) → clauses ≡ getD dir clauseCount 0 → k < clauses → (c : Clause) × Nth (p .clauses) k c
   clause-at clauses k e l = below-nth (p .clauses) k (omega (arith, s .directory .clause-count))
 
-  pub heads-on : (set set′ : List ℕ) (q k : ℕ) → Noted set set′ q k → q ≡ getD words (getD dir (clauseHead + k) 0) 0 → HeadsBelow p set k → HeadsBelow p set′ (k + 1)
+  pub heads-on : (set set′ : List ℕ) (q k : ℕ) → Entered set set′ q k → q ≡ getD words (getD dir (clauseHead + k) 0) 0 → HeadsBelow p set k → HeadsBelow p set′ (k + 1)
   heads-on set set′ q k one is before k′ c l h = at k′ h l (ℕ-discrete k′ k)
     where
       at : (k′ : ℕ) → Nth (p .clauses) k′ c → k′ < k + 1 → Dec (k′ ≡ k) → Has (getD set′ (predicateOf (c .head)) 0) k′
       at k′ h l (yes e) =
           let f : predicateOf (c .head) ≡ q = sym (is ∙ head-first s (subst (λ (x : ℕ). Nth (p .clauses) x c) e h)) in
-          rw (f, e) (one .noted)
+          rw (f, e) (one .entered)
       at k′ h l (no o) = one .kept (predicateOf (c .head)) k′ (before k′ c (omega arith) h)
 
-  pub heads-all : (set : List ℕ) (clauses k : ℕ) → clauses ≡ getD dir clauseCount 0 → clauses ≤ k → HeadsBelow p set k → HeadsNoted p set
+  pub heads-all : (set : List ℕ) (clauses k : ℕ) → clauses ≡ getD dir clauseCount 0 → clauses ≤ k → HeadsBelow p set k → HeadsEntered p set
   heads-all set clauses k e l below k′ c h = below k′ c (omega (arith, nth-below h, s .directory .clause-count)) h
 
   -- the body atoms from where clause k begins to where the next does are its own
@@ -72,7 +72,7 @@ module _ {words dir : List ℕ} {p : Program} (s : Setting words dir p) where
       let e : clauseFirst + k + 1 ≡ clauseFirst + suc k = omega arith in
       rw e (omega arith)
 
-  pub bodies-on : (set set′ : List ℕ) (q k j : ℕ) → Noted set set′ q k → q ≡ getD words (getD dir (bodyStart + j) 0) 0 → ((b : BodyOf p j) → k ≡ b .k) → BodiesBelow p set j
+  pub bodies-on : (set set′ : List ℕ) (q k j : ℕ) → Entered set set′ q k → q ≡ getD words (getD dir (bodyStart + j) 0) 0 → ((b : BodyOf p j) → k ≡ b .k) → BodiesBelow p set j
       → BodiesBelow p set′ (j + 1)
   bodies-on set set′ q k j one is own before j′ b l = at (ℕ-discrete j′ j)
     where
@@ -80,13 +80,13 @@ module _ {words dir : List ℕ} {p : Program} (s : Setting words dir p) where
       this b =
           let f : predicateOf (b .A) ≡ q = sym (is ∙ body-first s b) in
           let g : b .k ≡ k = sym (own b) in
-          rw (f, g) (one .noted)
+          rw (f, g) (one .entered)
 
       at : Dec (j′ ≡ j) → Has (getD set′ (predicateOf (b .A)) 0) (b .k)
       at (yes e) = subst (λ (x : ℕ). (b : BodyOf p x) → Has (getD set′ (predicateOf (b .A)) 0) (b .k)) (sym e) this b
       at (no o) = one .kept (predicateOf (b .A)) (b .k) (before j′ b (omega arith))
 
-  pub bodies-all : (set : List ℕ) (clauses k j : ℕ) → clauses ≡ getD dir clauseCount 0 → k ≤ clauses → clauses ≤ k → j ≡ getD dir (clauseFirst + k) 0 → BodiesBelow p set j → BodiesNoted p set
+  pub bodies-all : (set : List ℕ) (clauses k j : ℕ) → clauses ≡ getD dir clauseCount 0 → k ≤ clauses → clauses ≤ k → j ≡ getD dir (clauseFirst + k) 0 → BodiesBelow p set j → BodiesEntered p set
   bodies-all set clauses k′ j e a b last below k i c A hc hA =
       let f : k′ ≡ length (p .clauses) = omega (arith, s .directory .clause-count) in
       let g : j ≡ getD dir bodyCount 0 = last ∙ ap (λ (x : ℕ). getD dir (clauseFirst + x) 0) f ∙ s .directory .first-last in

@@ -18,20 +18,20 @@ pub data Concerns (p : Program) (k : ℕ) : Row ℕ → Type 0 where
   by-solution : {i s M : ℕ} {c : Clause} {A S : Term} → Nth (p .clauses) k c → Nth (c .body) i A → Nth (shapes p) s S → predicateOf A ≡ predicateOf S
       → Concerns p k (solution s M)
 
--- one set of clauses for each predicate; clause k is noted for predicate q, and nothing is lost
-pub record Noted (set set′ : List ℕ) (q k : ℕ) : Type 0 where
-  pub noted : Has (getD set′ q 0) k
+-- one set of clauses for each predicate; clause k is entered for predicate q, and nothing is lost
+pub record Entered (set set′ : List ℕ) (q k : ℕ) : Type 0 where
+  pub entered : Has (getD set′ q 0) k
   pub kept : (x v : ℕ) → Has (getD set x 0) v → Has (getD set′ x 0) v
 
-abbrev pub HeadsNoted : Program → List ℕ → Type 0
-HeadsNoted p set = (k : ℕ) (c : Clause) → Nth (p .clauses) k c → Has (getD set (predicateOf (c .head)) 0) k
+abbrev pub HeadsEntered : Program → List ℕ → Type 0
+HeadsEntered p set = (k : ℕ) (c : Clause) → Nth (p .clauses) k c → Has (getD set (predicateOf (c .head)) 0) k
 
-abbrev pub BodiesNoted : Program → List ℕ → Type 0
-BodiesNoted p set = (k i : ℕ) (c : Clause) (A : Term) → Nth (p .clauses) k c → Nth (c .body) i A → Has (getD set (predicateOf A) 0) k
+abbrev pub BodiesEntered : Program → List ℕ → Type 0
+BodiesEntered p set = (k i : ℕ) (c : Clause) (A : Term) → Nth (p .clauses) k c → Nth (c .body) i A → Has (getD set (predicateOf A) 0) k
 
 pub record Indexed (p : Program) (headed bodied : List ℕ) : Type 0 where
-  pub heads-noted : HeadsNoted p headed
-  pub bodies-noted : BodiesNoted p bodied
+  pub heads-entered : HeadsEntered p headed
+  pub bodies-entered : BodiesEntered p bodied
 
 -- what is asked before the index is made, of a shape, and of a round
 pub record IndexAsked (words dir : List ℕ) : Type 0 where

@@ -4,9 +4,9 @@ use mathlib.Core.Path.{_≡_}
 use mathlib.Core.List.{List, [], _∷_}
 use lib.ListN.{length}
 use Rattle.program.specs.Reply.{illFormed}
+use Rattle.program.specs.Lists.{between}
 use Rattle.text.specs.Line.{behind, tab}
 use Rattle.cells.specs.Table.{Table, Read, wrong}
-use Rattle.cells.specs.Between.{between}
 use Rattle.declarations.specs.Declarations.{two}
 use Rattle.declarations.specs.declared.fields.Fields.{Fields}
 use Rattle.declarations.specs.declared.fields.Fields.the-variants.{Wrong, Two}

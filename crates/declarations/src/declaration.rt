@@ -15,11 +15,11 @@ ghost use Prim.Native.Nat.{ℕ, _+_, _^_, _≤_, _<_};
 ghost use mathlib.Core.Bool.{_&&_};
 ghost use lib.ListN.{length};
 ghost use lib.Dec.{ltb};
+ghost use Rattle.program.specs.Lists.{between};
 ghost use Rattle.text.specs.Name.{maxNames};
 ghost use Rattle.text.specs.Line.{behind, tab};
 ghost use Rattle.program.specs.Limits.{maxDeclared};
 ghost use Rattle.declarations.specs.Declarations.{declaring, symbolOf, declared, predLine, funcLine};
-ghost use Rattle.cells.specs.Between.{between};
 ghost use Rattle.cells.specs.Room.{Roomy, tableOf};
 ghost use Rattle.declarations.specs.Held.{Holds, LinedAs, moreOf, Limited, Goes};
 

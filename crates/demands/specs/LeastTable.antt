@@ -7,9 +7,11 @@ use lib.ListN.{length, replicate}
 use Rattle.marks.specs.Modes.{modes}
 use Rattle.program.specs.Program.{Program}
 use Rattle.program.specs.declared.reply.Reply.{Reply}
+use Rattle.program.specs.Limits.{rowSize}
+use Rattle.program.specs.Lists.{Distinct}
 use Rattle.table.specs.Rules.{Row}
 use Rattle.table.specs.Rounds.{First, Least}
-use Rattle.table.specs.Table.{Entry, rowSize, tableWords, Ascending, Distinct}
+use Rattle.table.specs.Table.{Entry, tableWords, Ascending}
 
 -- of the program p, with so many words of table lent
 pub record LeastTable (p : Program) (size : ℕ) (reply : Reply) (table : List ℕ) : Type 1 where

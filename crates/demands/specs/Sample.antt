@@ -5,8 +5,9 @@ use mathlib.Core.Path.{_≡_}
 use mathlib.Core.List.{List, [], _∷_, _++_}
 use lib.ListN.{length, replicate}
 use Rattle.program.specs.Reply.{noRoom, refused, done}
+use Rattle.program.specs.Limits.{rowSize}
 use Rattle.table.specs.Rules.{Row}
-use Rattle.table.specs.Table.{Entry, rowSize, tableWords, Promise}
+use Rattle.table.specs.Table.{Entry, tableWords, Promise}
 use Rattle.text.specs.Room.{inRoom}
 use Rattle.cells.specs.Table.{wrong, right}
 use Rattle.reader.specs.Read.{readOf}

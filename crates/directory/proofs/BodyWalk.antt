@@ -11,9 +11,10 @@ use Rattle.terms.specs.Term.{Term}
 use Rattle.terms.specs.Cells.{enc}
 use Rattle.program.specs.Program.{Nth}
 use Rattle.program.specs.Within.{encodeAtoms}
+use Rattle.program.specs.Limits.{maxBodies}
 use Rattle.program.proofs.ShapeLaws.{nth-same}
 use Rattle.program.proofs.Nths.{below-nth}
-use Rattle.directory.specs.Layout.{bodyStart, bodyCells, dirWords, maxBodies}
+use Rattle.directory.specs.Layout.{bodyStart, bodyCells, dirWords}
 use Rattle.directory.specs.Walked.{Atoms-written, Body-in}
 use Rattle.directory.specs.From.{Atom-from, Atoms-from}
 use Rattle.directory.proofs.Cuts.{cut-behind, nth-drop, each-nth}

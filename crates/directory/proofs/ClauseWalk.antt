@@ -7,11 +7,11 @@ use lib.ListN.{length, getD, set, take, drop, length-set}
 use lib.Seq.{drop-length, getD-set-same, getD-set-other}
 use Rattle.terms.specs.Cells.{enc}
 use Rattle.terms.specs.Walk.{Cells}
-use Rattle.program.specs.Limits.{maxDeclared, maxBody}
+use Rattle.program.specs.Limits.{maxDeclared, maxBody, maxBodies}
 use Rattle.program.specs.Shapes.{met}
 use Rattle.program.specs.Within.{encodeAtoms}
 use Rattle.program.proofs.Nths.{nth-below}
-use Rattle.directory.specs.Layout.{clauseHead, clauseCells, clauseFirst, clauseVars, bodyStart, bodyCells, dirWords, maxBodies}
+use Rattle.directory.specs.Layout.{clauseHead, clauseCells, clauseFirst, clauseVars, bodyStart, bodyCells, dirWords}
 use Rattle.directory.specs.Numbers.{metCells}
 use Rattle.directory.specs.Walked.{Atoms-written, Clause-written, Head-in}
 use Rattle.directory.specs.From.{Atom-from, Atoms-from, Clause-from}

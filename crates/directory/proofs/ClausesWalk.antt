@@ -9,13 +9,13 @@ use mathlib.Core.List.{List, [], _∷_, _++_, append-assoc, append-nil}
 use lib.ListN.{length, getD, set, take, drop, length-set, length-append}
 use lib.Seq.{getD-set-other}
 use Rattle.terms.specs.Term.{Term}
-use Rattle.program.specs.Limits.{maxDeclared, maxBody}
+use Rattle.program.specs.Limits.{maxDeclared, maxBody, maxBodies}
 use Rattle.terms.specs.Cells.{enc}
 use Rattle.program.specs.Program.{Nth, Clause, bodies}
 use Rattle.program.specs.Within.{Each, more, encodeAtoms, encodeClauses, WithinClause}
 use Rattle.program.proofs.ShapeLaws.{nth-same}
 use Rattle.program.proofs.Nths.{below-nth, nth-append, nth-below}
-use Rattle.directory.specs.Layout.{clauseFirst, dirWords, maxBodies}
+use Rattle.directory.specs.Layout.{clauseFirst, dirWords}
 use Rattle.directory.specs.Walked.{Clause-written, Clauses-written, Head-in, Body-in}
 use Rattle.directory.specs.From.{Clause-from, Clauses-from}
 use Rattle.directory.proofs.Cuts.{nth-drop, nth-take, each-nth}

@@ -9,8 +9,9 @@ use Rattle.terms.specs.Term.{Term}
 use Rattle.terms.specs.Cells.{Atom}
 use Rattle.program.specs.Program.{Nth, Clause, Program, bodies}
 use Rattle.program.specs.Within.{Each, none, more, encodeClauses, WithinClause}
+use Rattle.program.specs.Limits.{maxBodies}
 use Rattle.program.proofs.Nths.{nth-below}
-use Rattle.directory.specs.Layout.{bodyCount, clauseCount, functionsStart, clausesStart, goalStart, goalCells, goalGround, clauseHead, clauseCells, clauseFirst, clauseVars, bodyStart, bodyCells, bodyList, dirWords, predicatesStart, maxBodies}
+use Rattle.directory.specs.Layout.{bodyCount, clauseCount, functionsStart, clausesStart, goalStart, goalCells, goalGround, clauseHead, clauseCells, clauseFirst, clauseVars, bodyStart, bodyCells, bodyList, dirWords, predicatesStart}
 use Rattle.directory.specs.Said.{said, Accepted}
 use Rattle.directory.specs.Walked.{Clauses-written, Goal-written, Head-in, Placed}
 use Rattle.directory.specs.Lists.{Variables-at, firstOf}

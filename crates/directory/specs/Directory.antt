@@ -9,7 +9,8 @@ use Rattle.terms.specs.Cells.{variables, atomCells, enc}
 use Rattle.terms.specs.Mask.{Marks}
 use Rattle.program.specs.Program.{Nth, Clause, Program, bodies}
 use Rattle.program.specs.Shapes.{shapes, shapeNumber, Listed}
-use Rattle.directory.specs.Layout.{shapeCount, bodyCount, clauseCount, functionsStart, clausesStart, goalStart, goalCells, goalGround, bodyStart, bodyCells, bodyShape, bodyList, clauseHead, clauseCells, clauseFirst, clauseVars, shapeStart, shapeVars, shapeNext, predicateShape, shapeCells, dirWords, predicatesStart, maxBodies, maxShapes, maxShapeCells}
+use Rattle.program.specs.Limits.{maxBodies, maxShapes}
+use Rattle.directory.specs.Layout.{shapeCount, bodyCount, clauseCount, functionsStart, clausesStart, goalStart, goalCells, goalGround, bodyStart, bodyCells, bodyShape, bodyList, clauseHead, clauseCells, clauseFirst, clauseVars, shapeStart, shapeVars, shapeNext, predicateShape, shapeCells, dirWords, predicatesStart, maxShapeCells}
 
 -- the term's cells stand in the words, so many from the start on
 pub record Stands-at (words : List ℕ) (t : Term) (start cells : ℕ) : Type 0 where

@@ -79,12 +79,6 @@ dirWords = 9550
 abbrev pub predicatesStart : ℕ
 predicatesStart = 3
 
--- how much there is at most
-abbrev pub maxBodies : ℕ
-maxBodies = 1024
-
-abbrev pub maxShapes : ℕ
-maxShapes = 1025
-
+-- the shapes have at most so many cells
 abbrev pub maxShapeCells : ℕ
 maxShapeCells = 2048

@@ -13,8 +13,8 @@ ghost use mathlib.Core.Path.{_≡_};
 ghost use Prim.Native.Nat.{_+_, _≤_, _<_};
 ghost use lib.ListN.{length, getD};
 ghost use Rattle.terms.specs.Cells.{enc};
-ghost use Rattle.program.specs.Limits.{maxDeclared, maxBody};
-ghost use Rattle.directory.specs.Layout.{clauseFirst, dirWords, maxBodies, maxShapeCells};
+ghost use Rattle.program.specs.Limits.{maxDeclared, maxBody, maxBodies};
+ghost use Rattle.directory.specs.Layout.{clauseFirst, dirWords, maxShapeCells};
 ghost use Rattle.directory.specs.Walked.{Atoms-written, Clause-written, Clauses-written};
 ghost use Rattle.directory.specs.From.{Atom-from, Atoms-from, Clause-from, Clauses-from};
 

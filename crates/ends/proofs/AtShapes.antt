@@ -9,8 +9,9 @@ use Rattle.terms.proofs.Masks.{marks-for}
 use Rattle.marks.specs.Passing.{VariablesOf}
 use Rattle.program.specs.Program.{Nth, Clause}
 use Rattle.program.specs.Shapes.{shapes}
+use Rattle.program.specs.Limits.{maxShapes}
 use Rattle.program.proofs.ShapeLaws.{nth-same}
-use Rattle.directory.specs.Layout.{shapeVars, maxShapes, dirWords}
+use Rattle.directory.specs.Layout.{shapeVars, dirWords}
 use Rattle.directory.specs.Directory.{ShapeAt}
 use Rattle.rows.specs.Rows.{keysOf}
 use Rattle.table.specs.Rules.{Row}

@@ -17,7 +17,7 @@ use Rattle.table.specs.Keys.{bodyIndex}
 use Rattle.steps.specs.Steps.{Grew}
 use Rattle.steps.specs.Situation.{Situation, BodyOf, HeadAsked, LastAsked}
 use Rattle.steps.specs.Since.{PredicateAsked}
-use Rattle.steps.specs.Heads.{HeadMark, Marked, Told}
+use Rattle.steps.specs.Heads.{HeadMark, Collected, Told}
 use Rattle.steps.proofs.Meetings.{setting-within}
 use Rattle.steps.proofs.Bodies.{first-body, head-is-atom}
 use Rattle.steps.proofs.BodyAtoms.{some-cells, predicate-there}
@@ -141,9 +141,9 @@ module _ (words dir table heads : List ℕ) (since rows k : ℕ) (w : HeadAsked 
           }
 
       pub last-marked : (found found′ : List ℕ) (r : Bool)
-          → ((s : Situation words dir table heads since rows) (b : BodyOf (s .p) (end - 1)) → Marked (HeadMark (s .p) table since rows (b .k) (suc (b .i))) found found′ × Told (HeadMark (s .p) table since rows (b .k) (suc (b .i))) r)
-          → Marked (HeadMark p table since rows k (length (c .body))) found found′ × Told (HeadMark p table since rows k (length (c .body))) r
-      last-marked found found′ r h = subst (λ (i : ℕ). Marked (HeadMark p table since rows k i) found found′ × Told (HeadMark p table since rows k i) r) last-suc (h (w .situation) last-body)
+          → ((s : Situation words dir table heads since rows) (b : BodyOf (s .p) (end - 1)) → Collected (HeadMark (s .p) table since rows (b .k) (suc (b .i))) found found′ × Told (HeadMark (s .p) table since rows (b .k) (suc (b .i))) r)
+          → Collected (HeadMark p table since rows k (length (c .body))) found found′ × Told (HeadMark p table since rows k (length (c .body))) r
+      last-marked found found′ r h = subst (λ (i : ℕ). Collected (HeadMark p table since rows k i) found found′ × Told (HeadMark p table since rows k i) r) last-suc (h (w .situation) last-body)
 
 -- the clause stands in a table that has grown
 module _ (words dir heads table₀ buckets₀ : List ℕ) (since rows round room n : ℕ) (l : rows ≤ n) where

@@ -11,20 +11,21 @@ use Rattle.terms.specs.Term.{Term}
 use Rattle.marks.specs.Pass.{Pass}
 use Rattle.program.specs.Program.{Nth, Clause, Program}
 use Rattle.program.specs.Shapes.{shapes}
+use Rattle.program.specs.Limits.{masks}
 use Rattle.program.proofs.ShapeLaws.{member-decided}
 use Rattle.directory.specs.Layout.{clauseVars}
 use Rattle.directory.specs.Directory.{predicateOf}
-use Rattle.rows.specs.Rows.{masks, keysOf}
+use Rattle.rows.specs.Rows.{keysOf}
 use Rattle.rows.specs.MaskSet.{setWords, InSet}
 use Rattle.table.specs.Rules.{call, solution}
-use Rattle.table.specs.Keys.{keyOf}
+use Rattle.table.specs.Keys.{rowKey}
 use Rattle.table.specs.Steps.{on-head}
 use Rattle.table.specs.NewRows.{new-on-head}
 use Rattle.table.specs.RoundKeys.{Keyed}
 use Rattle.steps.specs.Steps.{RowsIn}
 use Rattle.steps.specs.Situation.{HeadAsked}
 use Rattle.steps.specs.Since.{SinceIn}
-use Rattle.steps.specs.Heads.{HeadMark, Marked, Solved, solved, FoundOn}
+use Rattle.steps.specs.Heads.{HeadMark, Collected, Solved, solved, FoundOn}
 use Rattle.ends.specs.AtHead.{HeadGives}
 use Rattle.ends.specs.Ends.{AtEnd, WithHead}
 use Rattle.ends.specs.Keeping.{keptVars, keptMasks, keptSet, keptRows, knownOf, GoneTo, Keeping, Gained, Unkept}
@@ -46,11 +47,11 @@ at-kept-end p known ks₀ ks within k key (inr (row, (N, on-head hc reached, s, 
 module _ (p : Program) (table : List ℕ) (known rows k : ℕ) (kept ks : List ℕ) (gone : (q : ℕ) → InSet kept q → GoneTo p k q (keysOf table known) ks) where
   -- with a call row that is not known they are carried now, else they were
   gone-or-solved : (c : Clause) → Nth (p .clauses) k c → (q s C R : ℕ) (S : Term) → InSet kept q → Nth (shapes p) s S → RowsIn p (keysOf table rows) (call s C) → Pass (c .head) q S C R
-      → Keyed p (Solved p (keysOf table known) (keysOf table rows) k kept) (keyOf p (solution s R)) ⊎ List·Memᴰ (keyOf p (solution s R)) ks
-  gone-or-solved c hc q s C R S i hs called passed = at (member-decided ℕ-discrete (keyOf p (call s C)) (keysOf table known))
+      → Keyed p (Solved p (keysOf table known) (keysOf table rows) k kept) (rowKey p (solution s R)) ⊎ List·Memᴰ (rowKey p (solution s R)) ks
+  gone-or-solved c hc q s C R S i hs called passed = at (member-decided ℕ-discrete (rowKey p (call s C)) (keysOf table known))
     where
-      at : Dec (List·Memᴰ (keyOf p (call s C)) (keysOf table known))
-          → Keyed p (Solved p (keysOf table known) (keysOf table rows) k kept) (keyOf p (solution s R)) ⊎ List·Memᴰ (keyOf p (solution s R)) ks
+      at : Dec (List·Memᴰ (rowKey p (call s C)) (keysOf table known))
+          → Keyed p (Solved p (keysOf table known) (keysOf table rows) k kept) (rowKey p (solution s R)) ⊎ List·Memᴰ (rowKey p (solution s R)) ks
       at (yes m) = inr (gone q i c hc s C R S hs (called .0, m) passed)
       at (no n) = inl (solution s R, (s, solved hc i hs (called, λ o. n (o .1)) passed), refl)
 
@@ -110,7 +111,7 @@ module _ (words dir table heads : List ℕ) (since rows k : ℕ) (w : HeadAsked 
 -- a clause whose marks are kept: `found` has the marks of rows that are not known, and `new` those of them that are not kept
 module _ (words dir table heads : List ℕ) (since rows k : ℕ) (w : HeadAsked words dir table heads since rows k) (kept : List ℕ) {ks : List ℕ} (s : Keeping (w .situation .p) table kept rows ks)
     (few : getD dir (clauseVars + k) 0 ≤ keptVars) (first end : ℕ) (is-first : first ≡ keptSet * k) (is-end : end ≡ first + keptSet) (known : ℕ) (early : known ≤ knownOf kept k)
-    (found new : List ℕ) (marked : Marked (HeadMark (w .situation .p) table known rows k (length (w .clause .c .body))) (replicate setWords 0) found) (unkept : Unkept kept k found new) where
+    (found new : List ℕ) (marked : Collected (HeadMark (w .situation .p) table known rows k (length (w .clause .c .body))) (replicate setWords 0) found) (unkept : Unkept kept k found new) where
   abbrev q : Program
   q = w .situation .p
 

@@ -9,8 +9,9 @@ use Rattle.terms.specs.Mask.{Marks}
 use Rattle.marks.specs.Modes.{InOrder}
 use Rattle.program.specs.Program.{Nth}
 use Rattle.program.specs.Shapes.{number}
+use Rattle.program.specs.Limits.{maxBodies}
 use Rattle.program.proofs.Nths.{nth-below, below-nth}
-use Rattle.directory.specs.Layout.{clauseHead, clauseCells, clauseVars, clauseFirst, bodyStart, bodyCells, maxBodies}
+use Rattle.directory.specs.Layout.{clauseHead, clauseCells, clauseVars, clauseFirst, bodyStart, bodyCells}
 use Rattle.directory.specs.Directory.{BodyAt}
 use Rattle.table.specs.Keys.{bodyIndex}
 use Rattle.steps.specs.Situation.{AtomRun}

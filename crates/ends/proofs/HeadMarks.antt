@@ -17,11 +17,12 @@ use Rattle.marks.specs.Pass.{Known, Pass}
 use Rattle.marks.specs.Modes.{modes, Kept}
 use Rattle.marks.proofs.Modes.{keptOf, keptOf-kept}
 use Rattle.program.specs.Program.{Clause, Program}
+use Rattle.program.specs.Limits.{masks}
 use Rattle.program.proofs.ShapeLaws.{nth-same}
 use Rattle.program.proofs.Nths.{nth-below}
 use Rattle.directory.specs.Layout.{clauseVars}
 use Rattle.directory.specs.Directory.{predicateOf}
-use Rattle.rows.specs.Rows.{masks, slotAt, keysOf}
+use Rattle.rows.specs.Rows.{slotAt, keysOf}
 use Rattle.rows.specs.MaskSet.{setWords, InSet}
 use Rattle.rows.proofs.MaskSets.{none-in-zeros}
 use Rattle.rows.proofs.Keys.{listed-key, keys-by-row}
@@ -34,7 +35,7 @@ use Rattle.table.proofs.NewRows.{new-reached}
 use Rattle.steps.specs.Steps.{RowsIn}
 use Rattle.steps.specs.Situation.{HeadAsked}
 use Rattle.steps.specs.Since.{SinceIn}
-use Rattle.steps.specs.Heads.{ReachedSince, HeadMark, Marked, Solved, solved, FoundOn}
+use Rattle.steps.specs.Heads.{ReachedSince, HeadMark, Collected, Solved, solved, FoundOn}
 use Rattle.steps.proofs.ShapeAtoms.{shape-is-atom}
 use Rattle.steps.proofs.Meetings.{setting-within, one-predicate}
 use Rattle.steps.proofs.Bodies.{head-is-atom}
@@ -94,8 +95,8 @@ pub empty-on : (p : Program) (table : List ℕ) (rows k i : ℕ) → FoundOn p t
 empty-on p table rows k i = record { few = omega arith; within = omega arith; below = λ q h. absurd (has-none (q % 16) h); result = λ q h. absurd (has-none (q % 16) h) }
 
 -- marks that an empty set has gained
-pub marked-empty : (P : ℕ → Type 0) (found₀ found : List ℕ) → found₀ ≡ replicate setWords 0 → Marked P found₀ found → Marked P (replicate setWords 0) found
-marked-empty P found₀ found e m = subst (λ (f : List ℕ). Marked P f found) e m
+pub marked-empty : (P : ℕ → Type 0) (found₀ found : List ℕ) → found₀ ≡ replicate setWords 0 → Collected P found₀ found → Collected P (replicate setWords 0) found
+marked-empty P found₀ found e m = subst (λ (f : List ℕ). Collected P f found) e m
 
 module _ (words dir table heads : List ℕ) (since rows k : ℕ) (w : HeadAsked words dir table heads since rows k) where
   abbrev p : Program
@@ -128,7 +129,7 @@ module _ (words dir table heads : List ℕ) (since rows k : ℕ) (w : HeadAsked 
       (λ v b. vars-head words dir table heads since rows k w v (subst (λ (d : Clause). Occ v (d .head)) (nth-same (m .nth-clause) (w .clause .nth-clause)) (m .kept v .0 b .0)))
 
   -- a set of marks that result from the first so many rows
-  module _ (since′ upto : ℕ) (few : upto ≤ rows) (found : List ℕ) (marked : Marked (HeadMark p table since′ upto k (length (c .body))) (replicate setWords 0) found) where
+  module _ (since′ upto : ℕ) (few : upto ≤ rows) (found : List ℕ) (marked : Collected (HeadMark p table since′ upto k (length (c .body))) (replicate setWords 0) found) where
     -- what the set has is below the number of masks, and a head mark
     pub found-below : (q : ℕ) → InSet found q → q < masks
     found-below q h = at (decLt q masks)

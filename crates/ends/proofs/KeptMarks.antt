@@ -2,7 +2,7 @@
 use Prim.Native.Nat.{ℕ, zero, suc, _+_, _-_, _*_, _/_, _%_, _^_, _≤_, _<_}
 use native.Mathlib.Omega.{arith}
 use native.Mathlib.Decide.{decLt, ℕ-discrete}
-use mathlib.Core.Path.{_≡_, refl, sym, ap, subst, _∙_}
+use mathlib.Core.Path.{_≡_, sym, ap, subst, _∙_}
 use mathlib.Core.Logic.{_⊎_, inl, inr, ⊎-elim, _↔_}
 use mathlib.Core.List.{List, [], List·Memᴰ, List·Memᴰ·not-nil}
 use lib.ListN.{length, getD, set, take, drop, replicate, length-set, length-replicate}
@@ -21,7 +21,7 @@ use Rattle.rows.specs.Rows.{keysOf}
 use Rattle.rows.specs.MaskSet.{setWords, InSet}
 use Rattle.rows.proofs.MaskSets.{zero-word, none-in-zeros}
 use Rattle.table.specs.Rules.{Row, call, cont, solution, Reached, first, next}
-use Rattle.table.specs.Keys.{keyOf}
+use Rattle.table.specs.Keys.{rowKey}
 use Rattle.table.specs.Steps.{opens, makes}
 use Rattle.table.specs.NewRows.{NewReached}
 use Rattle.table.proofs.NewRows.{new-reached}
@@ -29,7 +29,7 @@ use Rattle.table.proofs.Added.{behind-keeps}
 use Rattle.program.proofs.FoundLaws.{sound-same}
 use Rattle.steps.specs.Steps.{RowsIn, Given, Stepped}
 use Rattle.steps.specs.Situation.{Setting, HeadAsked}
-use Rattle.steps.specs.Heads.{HeadMark, Marked, FoundOn}
+use Rattle.steps.specs.Heads.{HeadMark, Collected, FoundOn}
 use Rattle.steps.proofs.Stepping.{keys-stay, stepped-within}
 use Rattle.steps.proofs.Meetings.{setting-within}
 use Rattle.ends.specs.Keeping.{keptVars, keptMasks, keptSet, keptRows, keptWords, KeptIn, knownOf, GoneTo, Keeping, Keeps, Gained, Unkept}
@@ -40,15 +40,15 @@ use Rattle.ends.proofs.KeptWords.{part-length, part-members}
 -- marks result from rows that are known alone, or from one that is not
 pub reached-known-or-new : (p : Program) (known ks : List ℕ) {k i N : ℕ} → Reached modes p (RowsIn p ks) k i N
     → Reached modes p (RowsIn p known) k i N ⊎ NewReached modes p (RowsIn p known) (RowsIn p ks) k i N
-reached-known-or-new p known ks {N = N} (first {k = k} {s = s} {M = M} hc hs row passed) = at (member-decided ℕ-discrete (keyOf p (call s M)) known)
+reached-known-or-new p known ks {N = N} (first {k = k} {s = s} {M = M} hc hs row passed) = at (member-decided ℕ-discrete (rowKey p (call s M)) known)
   where
-    at : Dec (List·Memᴰ (keyOf p (call s M)) known) → Reached modes p (RowsIn p known) k 0 N ⊎ NewReached modes p (RowsIn p known) (RowsIn p ks) k 0 N
+    at : Dec (List·Memᴰ (rowKey p (call s M)) known) → Reached modes p (RowsIn p known) k 0 N ⊎ NewReached modes p (RowsIn p known) (RowsIn p ks) k 0 N
     at (yes m) = inl (first hc hs (row .0, m) passed)
     at (no n) = inr (s, M, (row, λ o. n (o .1)), opens hc hs passed)
 reached-known-or-new p known ks {N = N} (next {k = k} {i = i} {s = s} {M = M} {L = L} hc hA hs row row′ passed joined) =
-    at (member-decided ℕ-discrete (keyOf p (cont (suc k) (suc i) M)) known) (member-decided ℕ-discrete (keyOf p (solution s L)) known)
+    at (member-decided ℕ-discrete (rowKey p (cont (suc k) (suc i) M)) known) (member-decided ℕ-discrete (rowKey p (solution s L)) known)
   where
-    at : Dec (List·Memᴰ (keyOf p (cont (suc k) (suc i) M)) known) → Dec (List·Memᴰ (keyOf p (solution s L)) known)
+    at : Dec (List·Memᴰ (rowKey p (cont (suc k) (suc i) M)) known) → Dec (List·Memᴰ (rowKey p (solution s L)) known)
         → Reached modes p (RowsIn p known) k (suc i) N ⊎ NewReached modes p (RowsIn p known) (RowsIn p ks) k (suc i) N
     at (yes m) (yes m′) = inl (next hc hA hs (row .0, m) (row′ .0, m′) passed joined)
     at (yes m) (no n) = inr (M, s, L, row, row′, inr (λ o. n (o .1)), makes hc hA hs passed joined)
@@ -140,7 +140,7 @@ kept-or-new kept k found found′ u q l i = at (has-decided (getD kept (keptSet 
     at (no o) = inr (u .members q .1 (i, λ l′. o))
 
 -- a kept set that gains the new marks of a set has all of them
-pub gained-marked : {P : ℕ → Type 0} (k : ℕ) (kept kept′ found found′ : List ℕ) → Marked P (replicate setWords 0) found → Unkept kept k found found′ → Gained (InSet found′) k kept kept′
+pub gained-marked : {P : ℕ → Type 0} (k : ℕ) (kept kept′ found found′ : List ℕ) → Collected P (replicate setWords 0) found → Unkept kept k found found′ → Gained (InSet found′) k kept kept′
     → Gained P k kept kept′
 gained-marked k kept kept′ found found′ m u g =
     record {
@@ -231,7 +231,7 @@ module _ {words dir : List ℕ} {p : Program} (setting : Setting words dir p) (t
           rw (e, same, its-rows) (its-marks q l)
 
       went : (k′ q : ℕ) → q < keptMasks → KeptIn now-known k′ q → (c′ : Clause) (h : Nth (p .clauses) k′ c′) → Dec (k′ ≡ k)
-          → (s′ C R : ℕ) (S : Term) → Nth (shapes p) s′ S → RowsIn p (keysOf table (knownOf now-known k′)) (call s′ C) → Pass (c′ .head) q S C R → List·Memᴰ (keyOf p (solution s′ R)) ks
+          → (s′ C R : ℕ) (S : Term) → Nth (shapes p) s′ S → RowsIn p (keysOf table (knownOf now-known k′)) (call s′ C) → Pass (c′ .head) q S C R → List·Memᴰ (rowKey p (solution s′ R)) ks
       went k′ q l i c′ h (no o) s′ C R S hs called = s .carried k′ q l (rw (other-word k′ q o (below h) l) at i) c′ h s′ C R S hs (rw (other-rows k′ o) at called)
       went k′ q l i c′ h (yes e) s′ C R S hs called =
           gone q l (rw (e, set-word k q (below hc) l) at i) c′ (subst (λ (x : ℕ). Nth (p .clauses) x c′) e h) s′ C R S hs (rw (e, its-rows) at called)

@@ -8,8 +8,8 @@ use lib.ListN.{length, getD}
 use Rattle.terms.specs.Term.{Term}
 use Rattle.terms.specs.Unifier.{Apart, Unifies}
 use Rattle.program.specs.Program.{Nth, Clause, Program}
+use Rattle.program.specs.Limits.{maxShapes}
 use Rattle.program.proofs.ShapeLaws.{nth-same}
-use Rattle.directory.specs.Layout.{maxShapes}
 use Rattle.rows.specs.Rows.{keysOf}
 use Rattle.table.specs.Rules.{Row}
 use Rattle.table.proofs.Steps.{opens-apart}

@@ -12,7 +12,7 @@ use Rattle.program.specs.Shapes.{shapes}
 use Rattle.rows.specs.Rows.{keysOf}
 use Rattle.rows.specs.MaskSet.{InSet}
 use Rattle.table.specs.Rules.{call, solution}
-use Rattle.table.specs.Keys.{keyOf}
+use Rattle.table.specs.Keys.{rowKey}
 use Rattle.steps.specs.Steps.{RowsIn}
 use Rattle.steps.specs.Situation.{Setting}
 use Rattle.steps.specs.Heads.{HeadMark}
@@ -46,7 +46,7 @@ knownOf kept k = getD kept (keptRows + k) 0
 abbrev pub GoneTo : Program → ℕ → ℕ → List ℕ → List ℕ → Type 0
 GoneTo p k q called ks =
     (c : Clause) → Nth (p .clauses) k c → (s C R : ℕ) (S : Term) → Nth (shapes p) s S → RowsIn p called (call s C) → Pass (c .head) q S C R
-    → List·Memᴰ (keyOf p (solution s R)) ks
+    → List·Memᴰ (rowKey p (solution s R)) ks
 
 -- for each clause exactly the marks on its head that result from rows that are known, which are some of the first n; they have gone to the call rows
 -- that are known, and what they gave is among the rows so far, ks

@@ -9,7 +9,7 @@ ghost use mathlib.Core.Path.{_≡_};
 ghost use lib.ListN.{length, replicate};
 ghost use Rattle.rows.specs.MaskSet.{setWords};
 ghost use Rattle.steps.specs.Situation.{HeadAsked};
-ghost use Rattle.steps.specs.Heads.{HeadMark, Marked, Told};
+ghost use Rattle.steps.specs.Heads.{HeadMark, Collected, Told};
 ghost use Rattle.steps.specs.Unifiers.{HeadNotes};
 ghost use Rattle.joining.specs.KeptAnswers.{KeepsAnswers};
 
@@ -25,15 +25,15 @@ pub fn head_marks<'a>(
     before: usize,
     k: usize,
     found: &mut [u16],
-    noted: &mut [u16],
+    answered: &mut [u16],
     unifiers: &mut [u8],
 ) -> bool
     requires { ⌜ HeadAsked (now words) (now dir) (now table) (now heads) since before k × (now found ≡ replicate setWords 0)
-        × (length (now answers) ≡ 4096) × KeepsAnswers (now words) (now dir) (now table) (now noted) before
+        × (length (now answers) ≡ 4096) × KeepsAnswers (now words) (now dir) (now table) (now answered) before
         × HeadNotes (now words) (now dir) k (now unifiers) ⌝ }
-    ensures { λ r. ⌜ KeepsAnswers (now (words .entry)) (now (dir .entry)) (now (table .entry)) (now (noted .exit)) before
+    ensures { λ r. ⌜ KeepsAnswers (now (words .entry)) (now (dir .entry)) (now (table .entry)) (now (answered .exit)) before
         × ((w : HeadAsked (now (words .entry)) (now (dir .entry)) (now (table .entry)) (now (heads .entry)) since before k)
-        → Marked (HeadMark (w .situation .p) (now (table .entry)) since before k (length (w .clause .c .body))) (now (found .entry)) (now (found .exit))
+        → Collected (HeadMark (w .situation .p) (now (table .entry)) since before k (length (w .clause .c .body))) (now (found .entry)) (now (found .exit))
         × Told (HeadMark (w .situation .p) (now (table .entry)) since before k (length (w .clause .c .body))) r)
         × HeadNotes (now (words .entry)) (now (dir .entry)) k (now (unifiers .exit)) ⌝ }
 {
@@ -49,7 +49,7 @@ pub fn head_marks<'a>(
         table,
         heads,
         answers,
-        noted,
+        answered,
         since,
         before,
         end - 1,

@@ -9,10 +9,10 @@ use mathlib.Core.List.{List, [], _∷_, _++_, List·Memᴰ, List·Memᴰ·head, 
 use lib.ListN.{length, take, set, length-set}
 use lib.Seq.{take-suc-set, take-set-le}
 use Rattle.terms.proofs.Masks.{has-decided}
-use Rattle.rows.specs.Rows.{masks}
+use Rattle.program.specs.Limits.{masks}
+use Rattle.program.specs.Lists.{Distinct}
 use Rattle.rows.specs.MaskSet.{InSet, Inserted}
 use Rattle.program.proofs.OwnShape.{upTo, length-upTo, upTo-has}
-use Rattle.table.specs.Table.{Distinct}
 use Rattle.table.proofs.Distinct.{distinct-length, distinct-append}
 use Rattle.joining.specs.Answers.{Listing, Sources, Found}
 

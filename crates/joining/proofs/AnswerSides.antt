@@ -8,7 +8,7 @@ use mathlib.Core.Logic.{_⊎_, inl, inr, ⊎-elim, _↔_}
 use mathlib.Core.List.{List}
 use lib.ListN.{length, set, getD}
 use lib.Seq.{getD-set-same, getD-set-other}
-use Rattle.rows.specs.Rows.{masks, maxRows}
+use Rattle.program.specs.Limits.{masks, maxRows}
 use Rattle.rows.specs.MaskSet.{Inserted}
 use Rattle.joining.specs.Answers.{Listing, Stands}
 use Rattle.joining.specs.AnswerSteps.{Sided}

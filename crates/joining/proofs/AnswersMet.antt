@@ -14,8 +14,9 @@ use Rattle.marks.specs.Pass.{Marked, Pass}
 use Rattle.marks.specs.Passing.{VariablesOf, MarkedIn}
 use Rattle.marks.proofs.PassedOn.{first-stands, second-stands, marked-same, first-to-second}
 use Rattle.marks.proofs.Passing.{marked-under}
+use Rattle.program.specs.Limits.{masks}
 use Rattle.program.proofs.ShapeLaws.{nth-same}
-use Rattle.rows.specs.Rows.{masks, maskAt}
+use Rattle.rows.specs.Rows.{maskAt}
 use Rattle.directory.specs.Layout.{shapeVars}
 use Rattle.steps.specs.Situation.{Meeting, Unifying}
 use Rattle.joining.specs.AnswerSteps.{Gathered, AnswerOf, Sided, ShapeAsked, GivenFrom, MetAsked, GivenWith}

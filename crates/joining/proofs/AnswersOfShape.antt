@@ -11,7 +11,8 @@ use Rattle.terms.specs.Term.{Term}
 use Rattle.terms.proofs.Masks.{marks-unique}
 use Rattle.marks.specs.Passing.{MarkedIn}
 use Rattle.program.specs.Program.{Program}
-use Rattle.rows.specs.Rows.{rowSize, masks, slotAt, maskAt, beforeAt}
+use Rattle.program.specs.Limits.{rowSize, masks}
+use Rattle.rows.specs.Rows.{slotAt, maskAt, beforeAt}
 use Rattle.rows.specs.Chains.{Latest}
 use Rattle.rows.specs.MaskSet.{Inserted}
 use Rattle.table.specs.Keys.{firstSolution}

@@ -14,9 +14,10 @@ use Rattle.marks.specs.Passing.{VariablesOf}
 use Rattle.marks.proofs.AtomVariables.{present-small, present-variables}
 use Rattle.program.specs.Program.{Nth, Program}
 use Rattle.program.specs.Shapes.{shapes}
-use Rattle.rows.specs.Rows.{maxRows, slotAt, maskAt}
+use Rattle.program.specs.Limits.{maxRows, maxShapes}
+use Rattle.rows.specs.Rows.{slotAt, maskAt}
 use Rattle.rows.specs.Chains.{Latest}
-use Rattle.directory.specs.Layout.{bodyStart, bodyCells, predicateShape, shapeNext, maxShapes}
+use Rattle.directory.specs.Layout.{bodyStart, bodyCells, predicateShape, shapeNext}
 use Rattle.directory.specs.Directory.{Link, predicateOf, Stands-at}
 use Rattle.table.specs.Keys.{firstSolution}
 use Rattle.steps.specs.Situation.{Setting, Situation, BodyOf}

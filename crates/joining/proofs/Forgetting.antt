@@ -9,7 +9,7 @@ use lib.ListN.{length, take, getD, set, length-set, replicate, length-replicate,
 use lib.Seq.{take-nil, getD-set-same, getD-set-other, ext-getD}
 use Rattle.terms.specs.Mask.{Has}
 use Rattle.terms.proofs.Masks.{has-none, has-below, same-marks}
-use Rattle.rows.specs.Rows.{masks}
+use Rattle.program.specs.Limits.{masks}
 use Rattle.rows.specs.MaskSet.{setWords, InSet}
 use Rattle.joining.specs.Answers.{Listing}
 

@@ -9,7 +9,8 @@ use lib.ListN.{length, getD, replicate}
 use Rattle.terms.specs.Mask.{Has}
 use Rattle.marks.specs.Modes.{modes, Together, Kept}
 use Rattle.program.specs.Program.{Program}
-use Rattle.rows.specs.Rows.{rowSize, slotAt, maskAt, beforeAt, keysOf}
+use Rattle.program.specs.Limits.{rowSize}
+use Rattle.rows.specs.Rows.{slotAt, maskAt, beforeAt, keysOf}
 use Rattle.rows.proofs.Adding.{same-mask}
 use Rattle.rows.specs.MaskSet.{setWords, InSet, Inserted}
 use Rattle.rows.proofs.MaskSets.{none-in-zeros}
@@ -17,7 +18,7 @@ use Rattle.table.specs.Rules.{Reached}
 use Rattle.table.specs.RoundKeys.{Keyed}
 use Rattle.steps.specs.Situation.{Place}
 use Rattle.steps.specs.Steps.{RowsIn, Writable, Grew, Stepped, Emitted}
-use Rattle.steps.specs.Heads.{Marked}
+use Rattle.steps.specs.Heads.{Collected}
 use Rattle.joining.specs.Joined.{JoinedWith, Had, Due, ContMarks, RowsOf, KeptOf, JoinAsked, AnswersThere, ContsAsked, ContsThere}
 use Rattle.steps.proofs.Stepping.{keys-stay, grew-none, grew-must, stepped-within}
 use Rattle.steps.proofs.MarkedSets.{marked-same, marked-none, marked-one, marked-then}
@@ -93,8 +94,8 @@ module _ {dir order table answers seen : List ℕ} {count rows j mask upto n : �
 
 -- one answer more into the set
 pub answer-marked : (mask : ℕ) (answers : List ℕ) (there x N K : ℕ) (new : Bool) (found found′ found″ : List ℕ) → x < length answers → Together mask (getD answers x 0) N
-    → Kept (Has there) N K → length found″ ≡ setWords → Inserted found′ found″ K new → Marked (KeptOf there (JoinedWith mask answers x)) found found′
-    → Marked (KeptOf there (JoinedWith mask answers (x + 1))) found found″
+    → Kept (Has there) N K → length found″ ≡ setWords → Inserted found′ found″ K new → Collected (KeptOf there (JoinedWith mask answers x)) found found′
+    → Collected (KeptOf there (JoinedWith mask answers (x + 1))) found found″
 answer-marked mask answers there x N K new found found′ found″ less joined kept size ins m =
     let split = kept-split there (JoinedWith mask answers x) (λ N′. N′ ≡ N) (JoinedWith mask answers (x + 1)) (joined-more mask answers x N less joined) in
     marked-same found found″ (λ q. (split q .1, split q .0))
@@ -213,7 +214,7 @@ module _ {dir order table answers : List ℕ} {count rows newest since fresh all
 pub record MarksWalk {table answers : List ℕ} {newest fresh all : ℕ} (w : ContsThere table answers newest fresh all) (since there : ℕ) (found : List ℕ) (link : ℕ) (found′ : List ℕ) : Type 0 where
   pub within : link ≤ w .rows
   pub own : (r : ℕ) → suc r ≡ link → slotAt table r ≡ w .slot
-  pub marked : Marked (KeptOf there (ContMarks table answers (w .slot) (w .rows) since fresh all link)) found found′
+  pub marked : Collected (KeptOf there (ContMarks table answers (w .slot) (w .rows) since fresh all link)) found found′
 
 module _ {table answers : List ℕ} {newest fresh all : ℕ} (w : ContsThere table answers newest fresh all) (since there : ℕ) (found : List ℕ) where
   pub marks-walk-begins : length found ≡ setWords → MarksWalk w since there found newest found
@@ -232,7 +233,7 @@ module _ {table answers : List ℕ} {newest fresh all : ℕ} (w : ContsThere tab
     marks-row-falls = next-falls table answers (w .slot) (w .rows) newest since fresh all (w .chain) link (walk .within) (walk .own) more
 
     pub marks-row-done : (upto mask : ℕ) (found″ : List ℕ) → Turn since fresh all (link - 1) upto → mask ≡ maskAt table (link - 1)
-        → Marked (KeptOf there (JoinedWith mask answers upto)) found′ found″ → MarksWalk w since there found (beforeAt table (link - 1)) found″
+        → Collected (KeptOf there (JoinedWith mask answers upto)) found′ found″ → MarksWalk w since there found (beforeAt table (link - 1)) found″
     marks-row-done upto mask found″ turn is marked =
         record {
           within = omega (arith, walk .within, marks-row-falls);

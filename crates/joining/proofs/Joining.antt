@@ -4,7 +4,6 @@ use native.Mathlib.Omega.{arith}
 use native.Mathlib.Numerals.{add-one}
 use native.Mathlib.Decide.{decLt, ℕ-discrete}
 use mathlib.Core.Path.{_≡_, refl, sym, subst, _∙_}
-use mathlib.Core.Bool.{Bool}
 use mathlib.Core.Logic.{_⊎_, inl, inr, ⊎-elim, _↔_}
 use mathlib.Core.List.{List, [], _∷_, _++_, List·Memᴰ, List·Memᴰ·head, List·Memᴰ·not-nil, List·Memᴰ·append-cases, List·Memᴰ·eq-of-singleton, Memᴰ·append-left, Memᴰ·append-right}
 use lib.ListN.{length, take, drop, getD, take-append-drop}
@@ -15,10 +14,8 @@ use Rattle.marks.proofs.Modes.{together-unique, kept-unique}
 use Rattle.program.specs.Program.{Program}
 use Rattle.rows.specs.Rows.{slotAt, maskAt, beforeAt}
 use Rattle.rows.specs.Chains.{Latest}
-use Rattle.rows.specs.MaskSet.{setWords, Inserted}
 use Rattle.table.specs.RoundKeys.{Keyed}
 use Rattle.steps.specs.Steps.{Grew, Stepped, Emitted}
-use Rattle.steps.specs.Heads.{Marked}
 use Rattle.joining.specs.Joined.{JoinedWith, Due, ContMarks, RowsOf, KeptOf, SlotChain}
 use Rattle.steps.proofs.Stepping.{stepped-then, stepped-must}
 

@@ -14,19 +14,19 @@ use lib.Bits.{bitOr}
 use Rattle.terms.specs.Term.{Term, Occ}
 use Rattle.terms.specs.Cells.{variables}
 use Rattle.terms.specs.Mask.{Has}
-use Rattle.terms.proofs.Masks.{same-marks, marks-below, marks-unique}
+use Rattle.terms.proofs.Masks.{marks-below, marks-unique}
 use Rattle.marks.specs.Modes.{Renumbered, Reordered, Restored}
 use Rattle.marks.proofs.Modes.{renumberedOf, renumberedOf-renumbered}
 use Rattle.marks.proofs.RowMasks.{renumbered-restored}
 use Rattle.program.specs.Shapes.{number}
-use Rattle.rows.specs.Rows.{masks}
+use Rattle.program.specs.Limits.{masks}
+use Rattle.program.specs.Lists.{Distinct}
 use Rattle.rows.specs.MaskSet.{InSet, Inserted}
 use Rattle.rows.proofs.MaskSets.{bit-put}
-use Rattle.table.specs.Table.{Distinct}
 use Rattle.table.proofs.Distinct.{distinct-map}
 use Rattle.table.proofs.Lists.{has-map}
 use Rattle.joining.specs.Answers.{Found}
-use Rattle.joining.specs.KeptAnswers.{answerAtoms, answerMasks, answerRows, answerWords, NotedIn, Gained, Ordered, Recalled, Own, FewVars, RecallAsked}
+use Rattle.joining.specs.KeptAnswers.{answerMasks, answerRows, answerWords, AnsweredIn, Gained, Ordered, Recalled, Own, FewVars, RecallAsked}
 use Rattle.joining.proofs.AnswerLists.{distinct-below, found-none, found-for, found-there, found-new}
 
 module _ {A : Term} {order : List ℕ} {count j : ℕ} (k : FewVars A order count j) where
@@ -68,12 +68,12 @@ module _ {A : Term} {order : List ℕ} {count j : ℕ} (k : FewVars A order coun
       omega (arith, length-map l (renumberedOf A (number A)))
 
   -- answers put into the set
-  pub noted-none : (answers noted : List ℕ) → Gained (Ordered order count answers 0) j noted noted
-  noted-none answers noted =
+  pub answered-none : (answers answered : List ℕ) → Gained (Ordered order count answers 0) j answered answered
+  answered-none answers answered =
       record { size = refl; members = λ x. (inl, ⊎-elim (λ h. h) (λ g. absurd (List·Memᴰ·not-nil (g .2 .1)))); others = λ i l. refl }
 
-  module _ (answers noted₀ noted : List ℕ) (i M : ℕ) (size : length noted₀ ≡ answerWords) (less : i < length answers) (r : Reordered order count (getD answers i 0) M)
-      (g : Gained (Ordered order count answers i) j noted₀ noted) where
+  module _ (answers answered₀ answered : List ℕ) (i M : ℕ) (size : length answered₀ ≡ answerWords) (less : i < length answers) (r : Reordered order count (getD answers i 0) M)
+      (g : Gained (Ordered order count answers i) j answered₀ answered) where
     abbrev bit : ℕ
     bit = answerMasks * j + M
 
@@ -97,10 +97,10 @@ module _ {A : Term} {order : List ℕ} {count j : ℕ} (k : FewVars A order coun
         parts : take (i + 1) answers ≡ take i answers ++ (getD answers i 0 ∷ [])
         parts = rw add-one (take-suc answers i 0 less)
 
-    pub noted-one : Gained (Ordered order count answers (i + 1)) j noted₀ (set noted (bit / 16) (bitOr (getD noted (bit / 16) 0) (2 ^ (bit % 16))))
-    noted-one =
+    pub answered-one : Gained (Ordered order count answers (i + 1)) j answered₀ (set answered (bit / 16) (bitOr (getD answered (bit / 16) 0) (2 ^ (bit % 16))))
+    answered-one =
         record {
-          size = length-set noted (bit / 16) (bitOr (getD noted (bit / 16) 0) (2 ^ (bit % 16))) ∙ g .size;
+          size = length-set answered (bit / 16) (bitOr (getD answered (bit / 16) 0) (2 ^ (bit % 16))) ∙ g .size;
           members = λ x. (
             λ h. ⊎-elim
                 (λ o. ⊎-elim inl (λ n. inr (n .0, n .1, one-more (n .0) .0 (inl (n .2)), n .3)) (g .members x .0 o))
@@ -113,18 +113,18 @@ module _ {A : Term} {order : List ℕ} {count j : ℕ} (k : FewVars A order coun
                 (λ e. put x .1 (inr (n .3 ∙ ap (λ (y : ℕ). answerMasks * j + y) e)))
                 (one-more (n .0) .1 (n .2))),
           );
-          others = λ y l. getD-set-other noted (bit / 16) y (bitOr (getD noted (bit / 16) 0) (2 ^ (bit % 16))) 0 (λ e. omega (arith, word-there)) ∙ g .others y l;
+          others = λ y l. getD-set-other answered (bit / 16) y (bitOr (getD answered (bit / 16) 0) (2 ^ (bit % 16))) 0 (λ e. omega (arith, word-there)) ∙ g .others y l;
         }
       where
-        put : (x : ℕ) → InSet (set noted (bit / 16) (bitOr (getD noted (bit / 16) 0) (2 ^ (bit % 16)))) x ↔ (InSet noted x ⊎ (x ≡ bit))
-        put = bit-put noted bit (omega (arith, word-there, g .size, size))
+        put : (x : ℕ) → InSet (set answered (bit / 16) (bitOr (getD answered (bit / 16) 0) (2 ^ (bit % 16)))) x ↔ (InSet answered x ⊎ (x ≡ bit))
+        put = bit-put answered bit (omega (arith, word-there, g .size, size))
 
 -- answers listed from the set
-module _ {order seen₀ answers₀ noted : List ℕ} {count upto j : ℕ} (w : RecallAsked order seen₀ answers₀ noted count upto j) where
-  pub recall-none : Found (Recalled order count noted j 0) seen₀ answers₀ upto upto answers₀
+module _ {order seen₀ answers₀ answered : List ℕ} {count upto j : ℕ} (w : RecallAsked order seen₀ answers₀ answered count upto j) where
+  pub recall-none : Found (Recalled order count answered j 0) seen₀ answers₀ upto upto answers₀
   recall-none = found-none (w .listing) refl (λ N r. omega (arith, r .1))
 
-  module _ {seen answers : List ℕ} {all q : ℕ} (f : Found (Recalled order count noted j q) seen answers upto all answers₀) where
+  module _ {seen answers : List ℕ} {all q : ℕ} (f : Found (Recalled order count answered j q) seen answers upto all answers₀) where
     -- each mask of the atom has one answer at most, so there is room
     pub recall-room : all ≤ answerMasks
     recall-room =
@@ -132,26 +132,26 @@ module _ {order seen₀ answers₀ noted : List ℕ} {count upto j : ℕ} (w : R
         (λ N m. ⊎-elim (w .own N) (λ r. restored-own (w .kept) N (r .0) (r .3)) (f .members N .0 m)) in
         omega (arith, length-take-le all answers (omega (arith, f .listing .within, f .listing .list-size)))
 
-    pub recall-not : (NotedIn noted j q → ⊥) → Found (Recalled order count noted j (q + 1)) seen answers upto all answers₀
+    pub recall-not : (AnsweredIn answered j q → ⊥) → Found (Recalled order count answered j (q + 1)) seen answers upto all answers₀
     recall-not n = found-for (λ N. (λ r. (r .0, omega (arith, r .1), r .2, r .3), λ r. at N (r .0) (r .1) (r .2) (r .3) (ℕ-discrete (r .0) q))) f
       where
-        at : (N x : ℕ) → x < q + 1 → NotedIn noted j x → Restored order count x N → Dec (x ≡ q) → Recalled order count noted j q N
-        at N x l h r (yes e) = absurd (n (subst (NotedIn noted j) e h))
+        at : (N x : ℕ) → x < q + 1 → AnsweredIn answered j x → Restored order count x N → Dec (x ≡ q) → Recalled order count answered j q N
+        at N x l h r (yes e) = absurd (n (subst (AnsweredIn answered j) e h))
         at N x l h r (no o) = (x, omega arith, h, r)
 
-    module _ (h : NotedIn noted j q) {m : ℕ} (r : Restored order count q m) where
-      one : (N : ℕ) → (Recalled order count noted j q N ⊎ (N ≡ m)) ↔ Recalled order count noted j (q + 1) N
+    module _ (h : AnsweredIn answered j q) {m : ℕ} (r : Restored order count q m) where
+      one : (N : ℕ) → (Recalled order count answered j q N ⊎ (N ≡ m)) ↔ Recalled order count answered j (q + 1) N
       one N = (
         ⊎-elim (λ o. (o .0, omega (arith, o .1), o .2, o .3)) (λ e. (q, omega arith, h, subst (Restored order count q) (sym e) r)),
         λ o. at (o .0) (o .1) (o .2) (o .3) (ℕ-discrete (o .0) q),
       )
         where
-          at : (x : ℕ) → x < q + 1 → NotedIn noted j x → Restored order count x N → Dec (x ≡ q) → Recalled order count noted j q N ⊎ (N ≡ m)
+          at : (x : ℕ) → x < q + 1 → AnsweredIn answered j x → Restored order count x N → Dec (x ≡ q) → Recalled order count answered j q N ⊎ (N ≡ m)
           at x l i s (yes e) = inr (marks-unique (λ v. (y : ℕ) × (y < count) × (getD order y 0 ≡ v) × Has q y) N m (subst (λ (y : ℕ). Restored order count y N) e s) r)
           at x l i s (no o) = inl (x, omega arith, i, s)
 
-      pub recall-there : {seen′ : List ℕ} → length seen′ ≡ length seen → Inserted seen seen′ m false → Found (Recalled order count noted j (q + 1)) seen′ answers upto all answers₀
+      pub recall-there : {seen′ : List ℕ} → length seen′ ≡ length seen → Inserted seen seen′ m false → Found (Recalled order count answered j (q + 1)) seen′ answers upto all answers₀
       recall-there size t = found-for one (found-there f (restored-below (w .kept) m q r) size t)
 
-      pub recall-new : {seen′ : List ℕ} → length seen′ ≡ length seen → Inserted seen seen′ m true → Found (Recalled order count noted j (q + 1)) seen′ (set answers all m) upto (all + 1) answers₀
+      pub recall-new : {seen′ : List ℕ} → length seen′ ≡ length seen → Inserted seen seen′ m true → Found (Recalled order count answered j (q + 1)) seen′ (set answers all m) upto (all + 1) answers₀
       recall-new size t = found-for one (found-new f (restored-below (w .kept) m q r) size (omega (arith, recall-room)) t)

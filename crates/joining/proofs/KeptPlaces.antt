@@ -17,10 +17,11 @@ use Rattle.marks.proofs.Modes.{renumberedOf, renumberedOf-renumbered}
 use Rattle.marks.proofs.RowMasks.{reordered-renumbered, renumbered-reordered, renumbered-restored}
 use Rattle.program.specs.Program.{Program}
 use Rattle.program.specs.Shapes.{number}
+use Rattle.program.specs.Limits.{rowSize}
 use Rattle.program.proofs.ShapeLaws.{nth-same}
 use Rattle.directory.specs.Layout.{bodyStart, bodyCells}
 use Rattle.directory.proofs.Cuts.{middle-part}
-use Rattle.rows.specs.Rows.{rowSize, slotAt, maskAt}
+use Rattle.rows.specs.Rows.{slotAt, maskAt}
 use Rattle.rows.specs.MaskSet.{InSet}
 use Rattle.rows.proofs.MaskSets.{none-in-zeros}
 use Rattle.program.proofs.FoundLaws.{sound-same}
@@ -31,7 +32,7 @@ use Rattle.steps.proofs.Meetings.{setting-within}
 use Rattle.steps.proofs.Stepping.{stepped-within}
 use Rattle.joining.specs.Answers.{Answer, Found}
 use Rattle.joining.specs.Joined.{Answered}
-use Rattle.joining.specs.KeptAnswers.{answerAtoms, answerVars, answerMasks, answerRows, answerWords, NotedIn, answeredOf, OwnAnswer, KeepingAnswers, KeepsAnswers, Gained, Ordered, Recalled, Own, FewVars}
+use Rattle.joining.specs.KeptAnswers.{answerAtoms, answerVars, answerMasks, answerRows, answerWords, AnsweredIn, answeredOf, OwnAnswer, KeepingAnswers, KeepsAnswers, Gained, Ordered, Recalled, Own, FewVars}
 use Rattle.joining.proofs.KeptMasks.{few-masks, renumbered-below}
 use Rattle.joining.proofs.PlaceAnswers.{SinceKnown}
 use Rattle.joining.proofs.PlaceSteps.{one-body}
@@ -54,8 +55,8 @@ answer-split p table A {rows} {N} known (r, f, l, s, S, hs, e, pass) = at (decLt
     at (no h) = inr (r, omega arith, l, s, S, hs, e, pass)
 
 -- words say one program
-pub keeps-answers : {words dir : List ℕ} {p : Program} (table noted : List ℕ) (n : ℕ) → Setting words dir p → KeepingAnswers p table noted n → KeepsAnswers words dir table noted n
-keeps-answers table noted n s h p′ s′ = subst (λ (x : Program). KeepingAnswers x table noted n) (sound-same _ (s .accepted) (s′ .accepted)) h
+pub keeps-answers : {words dir : List ℕ} {p : Program} (table answered : List ℕ) (n : ℕ) → Setting words dir p → KeepingAnswers p table answered n → KeepsAnswers words dir table answered n
+keeps-answers table answered n s h p′ s′ = subst (λ (x : Program). KeepingAnswers x table answered n) (sound-same _ (s .accepted) (s′ .accepted)) h
 
 module _ {words dir table heads : List ℕ} {since rows j : ℕ} (w : Situation words dir table heads since rows) (b : BodyOf (w .p) j) where
   -- the atom's run, whose variables are put in order
@@ -76,22 +77,22 @@ module _ {words dir table heads : List ℕ} {since rows j : ℕ} (w : Situation 
   few-vars o l n = record { in-order = o; variables-few = atom-variables (body-atom (w .setting) b); few = l; near = n }
 
   module _ {order : List ℕ} {count : ℕ} (k : FewVars (b .A) order count j) where
-    module _ (noted noted′ answers : List ℕ) (known fresh all : ℕ) (s : KeepingAnswers (w .p) table noted rows) (early : known ≤ answeredOf noted j)
-        (listed : SinceKnown (w .p) table (b .A) known since rows answers fresh all) (g : Gained (Ordered order count answers all) j noted noted′)
+    module _ (answered answered′ answers : List ℕ) (known fresh all : ℕ) (s : KeepingAnswers (w .p) table answered rows) (early : known ≤ answeredOf answered j)
+        (listed : SinceKnown (w .p) table (b .A) known since rows answers fresh all) (g : Gained (Ordered order count answers all) j answered answered′)
         (x : ℕ) (x-is : x ≡ rows) where
       abbrev now-known : List ℕ
-      now-known = set noted′ (answerRows + j) x
+      now-known = set answered′ (answerRows + j) x
 
       its-rows : answeredOf now-known j ≡ rows
-      its-rows = getD-set-same noted′ (answerRows + j) x 0 (omega (arith, k .near, g .size, s .size)) ∙ x-is
+      its-rows = getD-set-same answered′ (answerRows + j) x 0 (omega (arith, k .near, g .size, s .size)) ∙ x-is
 
-      other-rows : (j′ : ℕ) → (j′ ≡ j → ⊥) → answeredOf now-known j′ ≡ answeredOf noted j′
-      other-rows j′ o = getD-set-other noted′ (answerRows + j) (answerRows + j′) x 0 (λ e. o (omega arith)) ∙ g .others (answerRows + j′) (omega arith)
+      other-rows : (j′ : ℕ) → (j′ ≡ j → ⊥) → answeredOf now-known j′ ≡ answeredOf answered j′
+      other-rows j′ o = getD-set-other answered′ (answerRows + j) (answerRows + j′) x 0 (λ e. o (omega arith)) ∙ g .others (answerRows + j′) (omega arith)
 
-      set-word : (j′ q : ℕ) → j′ < answerAtoms → q < answerMasks → getD now-known ((answerMasks * j′ + q) / 16) 0 ≡ getD noted′ ((answerMasks * j′ + q) / 16) 0
-      set-word j′ q n l = getD-set-other noted′ (answerRows + j) ((answerMasks * j′ + q) / 16) x 0 (λ e. omega arith)
+      set-word : (j′ q : ℕ) → j′ < answerAtoms → q < answerMasks → getD now-known ((answerMasks * j′ + q) / 16) 0 ≡ getD answered′ ((answerMasks * j′ + q) / 16) 0
+      set-word j′ q n l = getD-set-other answered′ (answerRows + j) ((answerMasks * j′ + q) / 16) x 0 (λ e. omega arith)
 
-      its-answers : (q : ℕ) → q < answerMasks → NotedIn noted′ j q ↔ OwnAnswer (w .p) table (b .A) rows q
+      its-answers : (q : ℕ) → q < answerMasks → AnsweredIn answered′ j q ↔ OwnAnswer (w .p) table (b .A) rows q
       its-answers q l = (
         λ h. ⊎-elim
             (λ o. let a = s .members j (k .near) b q l .0 o in (a .0, answer-wider (w .p) table (b .A) (a .1) (omega arith) (s .known-within j (k .near) b), a .2))
@@ -106,10 +107,10 @@ module _ {words dir table heads : List ℕ} {since rows j : ℕ} (w : Situation 
       )
 
       -- the answers that are new are kept, and all rows so far are known
-      pub keeping-noted : KeepingAnswers (w .p) table (set noted′ (answerRows + j) x) rows
-      keeping-noted =
+      pub keeping-answered : KeepingAnswers (w .p) table (set answered′ (answerRows + j) x) rows
+      keeping-answered =
           record {
-            size = length-set noted′ (answerRows + j) x ∙ g .size ∙ s .size;
+            size = length-set answered′ (answerRows + j) x ∙ g .size ∙ s .size;
             known-within = λ j′ n b′. within j′ n b′ (ℕ-discrete j′ j);
             members = λ j′ n b′ q l. rw (set-word j′ q n l) (at j′ n b′ q l (ℕ-discrete j′ j));
           }
@@ -122,15 +123,15 @@ module _ {words dir table heads : List ℕ} {since rows j : ℕ} (w : Situation 
           within j′ n b′ (no o) = rw (other-rows j′ o) (s .known-within j′ n b′)
 
           at : (j′ : ℕ) → j′ < answerAtoms → (b′ : BodyOf (w .p) j′) (q : ℕ) → q < answerMasks → Dec (j′ ≡ j)
-              → NotedIn noted′ j′ q ↔ OwnAnswer (w .p) table (b′ .A) (answeredOf now-known j′) q
+              → AnsweredIn answered′ j′ q ↔ OwnAnswer (w .p) table (b′ .A) (answeredOf now-known j′) q
           at j′ n b′ q l (yes e) = rw (one j′ e b′, e, its-rows) (its-answers q l)
           at j′ n b′ q l (no o) = rw (other-rows j′ o) (
             λ h. s .members j′ n b′ q l .0 (⊎-elim (λ x. x) (λ m. absurd (o (omega (arith, m .1, m .3)))) (g .members (answerMasks * j′ + q) .0 h)),
             λ a. g .members (answerMasks * j′ + q) .1 (inl (s .members j′ n b′ q l .1 a)),
           )
 
-      pub known-noted : answeredOf (set noted′ (answerRows + j) x) j ≡ rows
-      known-noted = its-rows
+      pub known-answered : answeredOf (set answered′ (answerRows + j) x) j ≡ rows
+      known-answered = its-rows
 
     module _ (answers : List ℕ) (known fresh all newest : ℕ) (listed : SinceKnown (w .p) table (b .A) known since rows answers fresh all) where
       -- no cont row is new
@@ -138,9 +139,9 @@ module _ {words dir table heads : List ℕ} {since rows j : ℕ} (w : Situation 
       answered-new l = record { fresh-are = listed .fresh-are; all-are = λ q m. answer-wider (w .p) table (b .A) (listed .are q .0 m) (omega arith) (omega arith); all-new = λ late. absurd (omega arith) }
 
       -- the kept answers are listed behind the others
-      pub answered-recalled : (noted : List ℕ) → KeepingAnswers (w .p) table noted rows → answeredOf noted j ≡ rows → {seen′ answers′ : List ℕ} {all′ : ℕ}
-          → Found (Recalled order count noted j (2 ^ count)) seen′ answers′ all all′ answers → Answered (w .p) table (b .A) since rows newest answers′ fresh all′
-      answered-recalled noted s e {answers′ = answers′} f =
+      pub answered-recalled : (answered : List ℕ) → KeepingAnswers (w .p) table answered rows → answeredOf answered j ≡ rows → {seen′ answers′ : List ℕ} {all′ : ℕ}
+          → Found (Recalled order count answered j (2 ^ count)) seen′ answers′ all all′ answers → Answered (w .p) table (b .A) since rows newest answers′ fresh all′
+      answered-recalled answered s e {answers′ = answers′} f =
           record {
             fresh-are = λ q. subst (λ (x : List ℕ). List·Memᴰ q x ↔ Answer (w .p) table (b .A) since rows q) (sym front) (listed .fresh-are q);
             all-are = λ q m. ⊎-elim (λ n. answer-wider (w .p) table (b .A) (listed .are q .0 n) (omega arith) (omega arith)) (λ r. out q (r .0) (r .1) (r .2) (r .3)) (f .members q .0 m);
@@ -150,13 +151,13 @@ module _ {words dir table heads : List ℕ} {since rows j : ℕ} (w : Situation 
           front : take fresh answers′ ≡ take fresh answers
           front = sym (take-take fresh all answers′ (listed .few)) ∙ ap (take fresh) (f .keeps) ∙ take-take fresh all answers (listed .few)
 
-          out : (N q : ℕ) → q < 2 ^ count → NotedIn noted j q → Restored order count q N → Answer (w .p) table (b .A) 0 rows N
+          out : (N q : ℕ) → q < 2 ^ count → AnsweredIn answered j q → Restored order count q N → Answer (w .p) table (b .A) 0 rows N
           out N q small h r =
               let a = s .members j (k .near) b q (omega (arith, few-masks k)) .0 h in
               let same : N ≡ a .0 = marks-unique (λ v. (x : ℕ) × (x < count) × (getD order x 0 ≡ v) × Has q x) N (a .0) r (renumbered-restored order count (a .0) q (k .in-order) (answer-own (w .p) table (b .A) (a .0) (a .1)) (a .2)) in
-              subst (λ (x : ℕ). Answer (w .p) table (b .A) 0 x N) e (subst (Answer (w .p) table (b .A) 0 (answeredOf noted j)) (sym same) (a .1))
+              subst (λ (x : ℕ). Answer (w .p) table (b .A) 0 x N) e (subst (Answer (w .p) table (b .A) 0 (answeredOf answered j)) (sym same) (a .1))
 
-          into : (N : ℕ) → Answer (w .p) table (b .A) 0 rows N → Recalled order count noted j (2 ^ count) N
+          into : (N : ℕ) → Answer (w .p) table (b .A) 0 rows N → Recalled order count answered j (2 ^ count) N
           into N a =
               let n = renumberedOf-renumbered (b .A) (number (b .A)) N in
               let small = renumbered-below k N (renumberedOf (b .A) (number (b .A)) N) n in (
@@ -167,15 +168,15 @@ module _ {words dir table heads : List ℕ} {since rows j : ℕ} (w : Situation 
               )
 
 -- what is kept stays as the table grows
-pub answers-stay : (p : Program) (table table′ noted : List ℕ) (n : ℕ) → ((r : ℕ) → r < n → (slotAt table′ r ≡ slotAt table r) × (maskAt table′ r ≡ maskAt table r))
-    → KeepingAnswers p table noted n → KeepingAnswers p table′ noted n
-answers-stay p table table′ noted n same s =
+pub answers-stay : (p : Program) (table table′ answered : List ℕ) (n : ℕ) → ((r : ℕ) → r < n → (slotAt table′ r ≡ slotAt table r) × (maskAt table′ r ≡ maskAt table r))
+    → KeepingAnswers p table answered n → KeepingAnswers p table′ answered n
+answers-stay p table table′ answered n same s =
     record {
       size = s .size;
       known-within = s .known-within;
       members = λ j l b q small. (
-        λ h. let a = s .members j l b q small .0 h in (a .0, over table table′ same (b .A) (answeredOf noted j) (a .0) (s .known-within j l b) (a .1), a .2),
-        λ a. s .members j l b q small .1 (a .0, over table′ table (λ r h. (sym (same r h .0), sym (same r h .1))) (b .A) (answeredOf noted j) (a .0) (s .known-within j l b) (a .1), a .2),
+        λ h. let a = s .members j l b q small .0 h in (a .0, over table table′ same (b .A) (answeredOf answered j) (a .0) (s .known-within j l b) (a .1), a .2),
+        λ a. s .members j l b q small .1 (a .0, over table′ table (λ r h. (sym (same r h .0), sym (same r h .1))) (b .A) (answeredOf answered j) (a .0) (s .known-within j l b) (a .1), a .2),
       );
     }
   where
@@ -184,19 +185,19 @@ answers-stay p table table′ noted n same s =
         let (e′, m) = same r (omega arith) in
         (r, f, l, s, S, hs, e′ ∙ e, subst (λ (x : ℕ). Pass S x A 0 N) (sym m) pass)
 
-pub answers-later : (p : Program) (table noted : List ℕ) (n n′ : ℕ) → n ≤ n′ → KeepingAnswers p table noted n → KeepingAnswers p table noted n′
-answers-later p table noted n n′ l s = record { size = s .size; known-within = λ j h b. let k = s .known-within j h b in omega arith; members = s .members }
+pub answers-later : (p : Program) (table answered : List ℕ) (n n′ : ℕ) → n ≤ n′ → KeepingAnswers p table answered n → KeepingAnswers p table answered n′
+answers-later p table answered n n′ l s = record { size = s .size; known-within = λ j h b. let k = s .known-within j h b in omega arith; members = s .members }
 
 -- the table of a step has the rows that are known
-pub step-keeps-answers : (p : Program) (ks : List ℕ) (round room n n′ rows : ℕ) (table buckets table′ buckets′ noted : List ℕ) (Must : ℕ → Type 0) → rows ≤ n
-    → Stepped p ks round room n table buckets Must n′ table′ buckets′ → n′ ≤ room → KeepingAnswers p table noted rows → KeepingAnswers p table′ noted rows
-step-keeps-answers p ks round room n n′ rows table buckets table′ buckets′ noted Must l step within =
+pub step-keeps-answers : (p : Program) (ks : List ℕ) (round room n n′ rows : ℕ) (table buckets table′ buckets′ answered : List ℕ) (Must : ℕ → Type 0) → rows ≤ n
+    → Stepped p ks round room n table buckets Must n′ table′ buckets′ → n′ ≤ room → KeepingAnswers p table answered rows → KeepingAnswers p table′ answered rows
+step-keeps-answers p ks round room n n′ rows table buckets table′ buckets′ answered Must l step within =
     let g = stepped-within p ks round room n n′ table buckets table′ buckets′ Must step within in
-    answers-stay p table table′ noted rows (λ r h. (g .same-rows (rowSize * r + 1) (omega arith), g .same-rows (rowSize * r + 2) (omega arith)))
+    answers-stay p table table′ answered rows (λ r h. (g .same-rows (rowSize * r + 1) (omega arith), g .same-rows (rowSize * r + 2) (omega arith)))
 
 -- with all words 0 nothing is kept, of no rows
-pub answers-none : (p : Program) (table noted : List ℕ) (n : ℕ) → noted ≡ replicate answerWords 0 → KeepingAnswers p table noted n
-answers-none p table noted n e =
+pub answers-none : (p : Program) (table answered : List ℕ) (n : ℕ) → answered ≡ replicate answerWords 0 → KeepingAnswers p table answered n
+answers-none p table answered n e =
     record {
       size = ap length e ∙ length-replicate {A = ℕ} answerWords 0;
       known-within = λ j l b. omega (arith, zero j l);
@@ -206,5 +207,5 @@ answers-none p table noted n e =
       );
     }
   where
-    zero : (j : ℕ) → j < answerAtoms → answeredOf noted j ≡ 0
+    zero : (j : ℕ) → j < answerAtoms → answeredOf answered j ≡ 0
     zero j l = ap (λ (x : List ℕ). getD x (answerRows + j) 0) e ∙ getD-replicate {A = ℕ} answerWords (answerRows + j) 0 0 (omega arith)

@@ -11,9 +11,10 @@ use Rattle.marks.specs.Pass.{Pass}
 use Rattle.marks.specs.Modes.{modes, Together}
 use Rattle.program.specs.Program.{Nth, Program}
 use Rattle.program.specs.Shapes.{shapes}
+use Rattle.program.specs.Limits.{maxRows}
 use Rattle.program.proofs.ShapeLaws.{nth-same}
 use Rattle.program.proofs.Nths.{nth-below}
-use Rattle.rows.specs.Rows.{slots, maxRows, slotAt, maskAt, keysOf}
+use Rattle.rows.specs.Rows.{slots, slotAt, maskAt, keysOf}
 use Rattle.rows.specs.MaskSet.{setWords, InSet}
 use Rattle.rows.proofs.MaskSets.{none-in-zeros}
 use Rattle.table.specs.Rules.{Row, cont, solution}
@@ -85,8 +86,8 @@ module _ (p : Program) (table : List ℕ) (A : Term) (from since rows : ℕ) {se
     pub since-known : SinceKnown p table A from since rows answers′ fresh all
     since-known = record { fresh-are = settled-fresh; are = settled-are; few = found .more }
 
-    pub answered : (newest : ℕ) → (since < newest → from ≡ 0) → Answered p table A since rows newest answers′ fresh all
-    answered newest from-start =
+    pub all-answered : (newest : ℕ) → (since < newest → from ≡ 0) → Answered p table A since rows newest answers′ fresh all
+    all-answered newest from-start =
         record {
           fresh-are = settled-fresh;
           all-are = λ q m. let (r, f, l, s, S, hs, e, t) = settled-are q .0 m in (r, omega arith, l, s, S, hs, e, t);

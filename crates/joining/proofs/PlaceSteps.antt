@@ -12,8 +12,9 @@ use Rattle.marks.proofs.RowMasks.{kept-by-list}
 use Rattle.program.specs.Program.{Nth, Program}
 use Rattle.program.specs.Shapes.{number}
 use Rattle.program.specs.Faults.{sound}
+use Rattle.program.specs.Limits.{maxBodies}
 use Rattle.program.proofs.ShapeLaws.{nth-same}
-use Rattle.directory.specs.Layout.{bodyStart, bodyCells, dirWords, maxBodies}
+use Rattle.directory.specs.Layout.{bodyStart, bodyCells, dirWords}
 use Rattle.directory.specs.Directory.{BodyAt}
 use Rattle.directory.proofs.Cuts.{middle-part}
 use Rattle.rows.specs.Rows.{maskAt, keysOf}
@@ -24,7 +25,7 @@ use Rattle.table.proofs.Keys.{index-same}
 use Rattle.table.proofs.NewRows.{new-reached}
 use Rattle.steps.specs.Situation.{Setting, Situation, BodyOf, Place, AtomRun, MiddleAsked, LastAsked}
 use Rattle.steps.specs.Steps.{RowsIn, Writable, Stepped}
-use Rattle.steps.specs.Heads.{HeadMark, Marked}
+use Rattle.steps.specs.Heads.{HeadMark, Collected}
 use Rattle.joining.specs.Joined.{ContMarks, RowsOf, KeptOf, AnswersThere, ContsAsked, ContsThere, Answered, BodyAsked}
 use Rattle.steps.proofs.Meetings.{setting-within}
 use Rattle.steps.proofs.Bodies.{body-there, body-few, body-is-atom}
@@ -71,8 +72,8 @@ module _ {words dir table heads : List ℕ} {since rows j : ℕ} (w : Situation 
           List·Memᴰ·not-nil (subst (λ (x : ℕ). List·Memᴰ q (take x answers)) none m)
 
       pub head-marked : (head : ℕ) (found found′ : List ℕ) → LastAsked words dir table heads since rows j head
-          → Marked (KeptOf head (ContMarks table answers (firstCont + j) rows since fresh all 0)) found found′
-          → Marked (HeadMark (w .p) table since rows (b .k) (suc (b .i))) found found′
+          → Collected (KeptOf head (ContMarks table answers (firstCont + j) rows since fresh all 0)) found found′
+          → Collected (HeadMark (w .p) table since rows (b .k) (suc (b .i))) found found′
       head-marked head found found′ m =
           marked-same found found′
           (λ q. (
@@ -139,13 +140,13 @@ module _ {words dir table heads : List ℕ} {since rows j : ℕ} (w : Situation 
 
     module _ {newest : ℕ} (newest-is : newest ≡ getD heads (firstCont + j) 0) (answers : List ℕ) (fresh all : ℕ) (there : AnswersThere answers fresh all)
         (a : Answered (w .p) table (b .A) since rows newest answers fresh all) where
-      pub answered : Answered (w .p) table (b .A) since rows (getD heads (firstCont + j) 0) answers fresh all
-      answered = rw newest-is at a
+      pub all-answered : Answered (w .p) table (b .A) since rows (getD heads (firstCont + j) 0) answers fresh all
+      all-answered = rw newest-is at a
 
       pub no-answers : all ≡ 0 → Stepped (w .p) (keysOf table rows) round room n table buckets NextKeys n table buckets
       no-answers none =
           stepped-none (w .p) (keysOf table rows) round room n table buckets NextKeys writable
-          (λ key (row, (N, made, goes), e). absurd (no-answer answers fresh all there answered none N made))
+          (λ key (row, (N, made, goes), e). absurd (no-answer answers fresh all there all-answered none N made))
 
       module _ (m : MiddleAsked words dir table heads since rows j) (order : List ℕ) (count : ℕ) (o : InOrder (m .next) (number (m .next)) order count) where
         abbrev pub conts-asked : ContsAsked dir order table answers count rows newest since fresh all (j + 1)
@@ -159,7 +160,7 @@ module _ {words dir table heads : List ℕ} {since rows j : ℕ} (w : Situation 
                     place = next-place m order count o;
                     reached = λ N made.
                         new-reached modes (w .p) (RowsIn (w .p) (keysOf table since)) (RowsIn (w .p) (keysOf table rows)) (b .k) (suc (b .i)) N
-                        (conts-reach w b answers fresh all answered N .0 made);
+                        (conts-reach w b answers fresh all all-answered N .0 made);
                   };
             }
 
@@ -170,4 +171,4 @@ module _ {words dir table heads : List ℕ} {since rows j : ℕ} (w : Situation 
             → Stepped (w .p) (keysOf table rows) round room n table buckets NextKeys n′ table′ buckets′
         next-rows {n′} {table′} {buckets′} step =
             stepped-must (w .p) (keysOf table rows) round room n n′ table buckets table′ buckets′ _ NextKeys
-            (λ key (row, (N, made, goes), e). (N, conts-reach w b answers fresh all answered N .1 made, (row, goes-emitted goes, e))) (step conts-asked)
+            (λ key (row, (N, made, goes), e). (N, conts-reach w b answers fresh all all-answered N .1 made, (row, goes-emitted goes, e))) (step conts-asked)

@@ -9,7 +9,8 @@ use Rattle.marks.specs.Pass.{Pass}
 use Rattle.marks.specs.Passing.{VariablesOf}
 use Rattle.program.specs.Program.{Nth, Program}
 use Rattle.program.specs.Shapes.{shapes}
-use Rattle.rows.specs.Rows.{rowSize, maxRows, slotAt, maskAt, beforeAt}
+use Rattle.program.specs.Limits.{rowSize, maxRows}
+use Rattle.rows.specs.Rows.{slotAt, maskAt, beforeAt}
 use Rattle.rows.specs.Chains.{Latest}
 use Rattle.table.specs.Keys.{firstSolution}
 use Rattle.steps.specs.Situation.{Meeting}

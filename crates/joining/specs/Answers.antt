@@ -10,10 +10,11 @@ use Rattle.marks.specs.Passing.{MarkedIn}
 use Rattle.terms.specs.Mask.{Marks}
 use Rattle.program.specs.Program.{Nth, Program}
 use Rattle.program.specs.Shapes.{shapes}
-use Rattle.rows.specs.Rows.{masks, maxRows, slotAt, maskAt}
+use Rattle.program.specs.Limits.{masks, maxRows}
+use Rattle.program.specs.Lists.{Distinct}
+use Rattle.rows.specs.Rows.{slotAt, maskAt}
 use Rattle.rows.specs.MaskSet.{setWords, InSet}
 use Rattle.table.specs.Keys.{firstSolution}
-use Rattle.table.specs.Table.{Distinct}
 use Rattle.steps.specs.Situation.{Situation, BodyOf}
 
 -- the first `count` answers are those seen

@@ -8,7 +8,8 @@ use Rattle.terms.specs.Term.{Term}
 use Rattle.terms.specs.Mask.{Has}
 use Rattle.marks.specs.Modes.{modes, Together, Kept}
 use Rattle.program.specs.Program.{Program}
-use Rattle.rows.specs.Rows.{rowSize, slotAt, maskAt, beforeAt, keysOf}
+use Rattle.program.specs.Limits.{rowSize}
+use Rattle.rows.specs.Rows.{slotAt, maskAt, beforeAt, keysOf}
 use Rattle.rows.specs.Chains.{Latest}
 use Rattle.rows.specs.MaskSet.{InSet}
 use Rattle.table.specs.Rules.{Reached}
@@ -32,11 +33,11 @@ ContMarks table answers slot rows since fresh all from N =
 
 -- the keys of the rows that such marks give before body atom i of clause k
 abbrev pub RowsOf : Program → ℕ → ℕ → (ℕ → Type 0) → ℕ → Type 0
-RowsOf p k i Marked key = (N : ℕ) × Marked N × Keyed p (Emitted p k i N) key
+RowsOf p k i Such key = (N : ℕ) × Such N × Keyed p (Emitted p k i N) key
 
 -- such marks, kept to the variables `there`
 abbrev pub KeptOf : ℕ → (ℕ → Type 0) → ℕ → Type 0
-KeptOf there Marked q = (N : ℕ) × Marked N × Kept (Has there) N q
+KeptOf there Such q = (N : ℕ) × Such N × Kept (Has there) N q
 
 -- the first `rows` rows of a slot are in a chain from `newest` on
 pub record SlotChain (table : List ℕ) (slot rows newest : ℕ) : Type 0 where
@@ -45,9 +46,9 @@ pub record SlotChain (table : List ℕ) (slot rows newest : ℕ) : Type 0 where
   pub fits : rowSize * rows ≤ length table
 
 -- the marks come before body atom j by the rules, from the first `rows` rows
-pub record Reaching (dir order table : List ℕ) (count rows j : ℕ) (Marked : ℕ → Type 0) : Type 0 where
+pub record Reaching (dir order table : List ℕ) (count rows j : ℕ) (Such : ℕ → Type 0) : Type 0 where
   pub place : Place dir order count j
-  pub reached : (N : ℕ) → Marked N → Reached modes (place .p) (RowsIn (place .p) (keysOf table rows)) (place .k) (place .i) N
+  pub reached : (N : ℕ) → Such N → Reached modes (place .p) (RowsIn (place .p) (keysOf table rows)) (place .k) (place .i) N
 
 -- marks that the set has, or M with one of the first `upto` answers
 abbrev pub Had : List ℕ → ℕ → List ℕ → ℕ → ℕ → Type 0

@@ -32,31 +32,31 @@ abbrev pub answerWords : ℕ
 answerWords = 17 * answerAtoms
 
 -- mask q is in the set of body atom j
-abbrev pub NotedIn : List ℕ → ℕ → ℕ → Type 0
-NotedIn noted j q = InSet noted (answerMasks * j + q)
+abbrev pub AnsweredIn : List ℕ → ℕ → ℕ → Type 0
+AnsweredIn answered j q = InSet answered (answerMasks * j + q)
 
 -- the set has the answers of the first so many rows
 abbrev pub answeredOf : List ℕ → ℕ → ℕ
-answeredOf noted j = getD noted (answerRows + j) 0
+answeredOf answered j = getD answered (answerRows + j) 0
 
 -- an answer of the first so many rows, in the atom's own numbering
 abbrev pub OwnAnswer : Program → List ℕ → Term → ℕ → ℕ → Type 0
 OwnAnswer p table A rows q = (N : ℕ) × Answer p table A 0 rows N × Renumbered A (number A) N q
 
 -- for each body atom exactly the answers of the rows that are known, which are some of the first n
-pub record KeepingAnswers (p : Program) (table noted : List ℕ) (n : ℕ) : Type 0 where
-  pub size : length noted ≡ answerWords
-  pub known-within : (j : ℕ) → j < answerAtoms → BodyOf p j → answeredOf noted j ≤ n
-  pub members : (j : ℕ) → j < answerAtoms → (b : BodyOf p j) (q : ℕ) → q < answerMasks → NotedIn noted j q ↔ OwnAnswer p table (b .A) (answeredOf noted j) q
+pub record KeepingAnswers (p : Program) (table answered : List ℕ) (n : ℕ) : Type 0 where
+  pub size : length answered ≡ answerWords
+  pub known-within : (j : ℕ) → j < answerAtoms → BodyOf p j → answeredOf answered j ≤ n
+  pub members : (j : ℕ) → j < answerAtoms → (b : BodyOf p j) (q : ℕ) → q < answerMasks → AnsweredIn answered j q ↔ OwnAnswer p table (b .A) (answeredOf answered j) q
 
 abbrev pub KeepsAnswers : List ℕ → List ℕ → List ℕ → List ℕ → ℕ → Type 0
-KeepsAnswers words dir table noted n = (p : Program) → Setting words dir p → KeepingAnswers p table noted n
+KeepsAnswers words dir table answered n = (p : Program) → Setting words dir p → KeepingAnswers p table answered n
 
 -- the set of body atom j has gained these masks, and nothing else has changed
-pub record Gained (P : ℕ → Type 0) (j : ℕ) (noted noted′ : List ℕ) : Type 0 where
-  pub size : length noted′ ≡ length noted
-  pub members : (x : ℕ) → InSet noted′ x ↔ (InSet noted x ⊎ ((q : ℕ) × (q < answerMasks) × P q × (x ≡ answerMasks * j + q)))
-  pub others : (i : ℕ) → answerRows ≤ i → getD noted′ i 0 ≡ getD noted i 0
+pub record Gained (P : ℕ → Type 0) (j : ℕ) (answered answered′ : List ℕ) : Type 0 where
+  pub size : length answered′ ≡ length answered
+  pub members : (x : ℕ) → InSet answered′ x ↔ (InSet answered x ⊎ ((q : ℕ) × (q < answerMasks) × P q × (x ≡ answerMasks * j + q)))
+  pub others : (i : ℕ) → answerRows ≤ i → getD answered′ i 0 ≡ getD answered i 0
 
 -- one of the first `upto` answers, in the list's order
 abbrev pub Ordered : List ℕ → ℕ → List ℕ → ℕ → ℕ → Type 0
@@ -64,7 +64,7 @@ Ordered order count answers upto q = (N : ℕ) × List·Memᴰ N (take upto answ
 
 -- what is in the set of body atom j, of the masks below so many, back in the clause's numbering
 abbrev pub Recalled : List ℕ → ℕ → List ℕ → ℕ → ℕ → ℕ → Type 0
-Recalled order count noted j upto N = (q : ℕ) × (q < upto) × NotedIn noted j q × Restored order count q N
+Recalled order count answered j upto N = (q : ℕ) × (q < upto) × AnsweredIn answered j q × Restored order count q N
 
 -- marks of the atom's own variables
 abbrev pub Own : Term → ℕ → Type 0
@@ -78,19 +78,19 @@ pub record FewVars (A : Term) (order : List ℕ) (count j : ℕ) : Type 0 where
   pub near : j < answerAtoms
 
 -- what is asked before the first `upto` answers are put into the set of body atom j
-pub record NoteAsked (order answers noted : List ℕ) (count upto j : ℕ) : Type 0 where
+pub record KeepAsked (order answers answered : List ℕ) (count upto j : ℕ) : Type 0 where
   pub A : Term
   pub kept : FewVars A order count j
   pub within : upto ≤ length answers
-  pub size : length noted ≡ answerWords
+  pub size : length answered ≡ answerWords
 
 -- what is asked before the set of body atom j is listed behind the first `upto` answers
-pub record RecallAsked (order seen answers noted : List ℕ) (count upto j : ℕ) : Type 0 where
+pub record RecallAsked (order seen answers answered : List ℕ) (count upto j : ℕ) : Type 0 where
   pub A : Term
   pub kept : FewVars A order count j
   pub listing : Listing seen answers upto
   pub own : (N : ℕ) → List·Memᴰ N (take upto answers) → Own A N
-  pub size : length noted ≡ answerWords
+  pub size : length answered ≡ answerWords
 
 -- the analysis stands at body atom j, whose answers are kept
 pub record KeptAsked (words dir table heads order : List ℕ) (count since rows j : ℕ) : Type 0 where

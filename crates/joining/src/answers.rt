@@ -16,7 +16,7 @@ use steps::place::SOLUTIONS;
 use terms::walk::wide;
 ghost use mathlib.Core.Path.{_≡_};
 ghost use lib.ListN.{replicate};
-ghost use Rattle.rows.specs.Rows.{maxRows};
+ghost use Rattle.program.specs.Limits.{maxRows};
 ghost use Rattle.rows.specs.MaskSet.{setWords};
 ghost use Rattle.steps.specs.Situation.{Situation, BodyOf};
 ghost use Rattle.joining.specs.Answers.{Listing, Found, Stands, Parted, AnswersAsked, SettleAsked};

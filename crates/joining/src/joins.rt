@@ -23,7 +23,7 @@ ghost use Rattle.table.specs.NewRows.{NewGoesOn};
 ghost use Rattle.table.specs.RoundKeys.{Keyed};
 ghost use Rattle.steps.specs.Situation.{Situation, BodyOf, MiddleAsked, LastAsked};
 ghost use Rattle.steps.specs.Steps.{RowsIn, Writable, Stepped};
-ghost use Rattle.steps.specs.Heads.{HeadMark, Marked, Told};
+ghost use Rattle.steps.specs.Heads.{HeadMark, Collected, Told};
 ghost use Rattle.joining.specs.Joined.{JoinedWith, Had, ContMarks, RowsOf, KeptOf, JoinAsked, ContsAsked, ContsThere};
 ghost use Rattle.joining.specs.KeptAnswers.{KeepsAnswers};
 
@@ -130,15 +130,15 @@ pub fn middle_place<'a>(
     heads: &[u16],
     seen: &mut [u16],
     answers: &mut [u16],
-    noted: &mut [u16],
+    answered: &mut [u16],
     n: usize,
     at: Round,
     j: usize,
 ) -> usize
     requires { ⌜ MiddleAsked (now words) (now dir) (now table) (now heads) (at .since) (at .rows) j × Writable (now table) (now buckets) n (at .room) × (at .rows ≤ n)
-        × (now seen ≡ replicate setWords 0) × (length (now answers) ≡ 4096) × KeepsAnswers (now words) (now dir) (now table) (now noted) (at .rows) ⌝ }
+        × (now seen ≡ replicate setWords 0) × (length (now answers) ≡ 4096) × KeepsAnswers (now words) (now dir) (now table) (now answered) (at .rows) ⌝ }
     ensures { λ r. ⌜ (now (seen .exit) ≡ replicate setWords 0)
-        × KeepsAnswers (now (words .entry)) (now (dir .entry)) (now (table .entry)) (now (noted .exit)) (at .rows)
+        × KeepsAnswers (now (words .entry)) (now (dir .entry)) (now (table .entry)) (now (answered .exit)) (at .rows)
         × ((w : Situation (now (words .entry)) (now (dir .entry)) (now (table .entry)) (now (heads .entry)) (at .since) (at .rows)) (b : BodyOf (w .p) j)
         → Stepped (w .p) (keysOf (now (table .entry)) (at .rows)) (at .number) (at .room) n (now (table .entry)) (now (buckets .entry))
         (Keyed (w .p) (NewGoesOn modes (w .p) (RowsIn (w .p) (keysOf (now (table .entry)) (at .since))) (RowsIn (w .p) (keysOf (now (table .entry)) (at .rows))) (b .k) (suc (b .i)))) r (now (table .exit)) (now (buckets .exit))) ⌝ }
@@ -156,7 +156,7 @@ pub fn middle_place<'a>(
         heads,
         seen,
         answers,
-        noted,
+        answered,
         since,
         before,
         j,
@@ -194,7 +194,7 @@ pub fn middle_place<'a>(
 // One cont row's marks with the first `upto` answers, kept to the head's variables, into the set.
 fn mark_joined(mask: u16, answers: &[u16], upto: usize, there: u16, found: &mut [u16])
     requires { ⌜ (upto ≤ length (now answers)) × (length (now found) ≡ setWords) ⌝ }
-    ensures { λ _. ⌜ Marked (KeptOf there (JoinedWith mask (now (answers .entry)) upto)) (now (found .entry)) (now (found .exit)) ⌝ }
+    ensures { λ _. ⌜ Collected (KeptOf there (JoinedWith mask (now (answers .entry)) upto)) (now (found .entry)) (now (found .exit)) ⌝ }
 {
     let mut i = 0;
     while i < upto {
@@ -216,7 +216,7 @@ fn mark_conts(
 )
     requires { ⌜ ContsThere (now table) (now answers) newest fresh all × (length (now found) ≡ setWords) ⌝ }
     ensures { λ _. ⌜ ((w : ContsThere (now (table .entry)) (now (answers .entry)) newest fresh all)
-        → Marked (KeptOf there (ContMarks (now (table .entry)) (now (answers .entry)) (w .slot) (w .rows) since fresh all 0)) (now (found .entry)) (now (found .exit))) ⌝ }
+        → Collected (KeptOf there (ContMarks (now (table .entry)) (now (answers .entry)) (w .slot) (w .rows) since fresh all 0)) (now (found .entry)) (now (found .exit))) ⌝ }
 {
     let mut link = newest;
     while 0 < link {
@@ -238,7 +238,7 @@ pub fn last_place<'a>(
     table: &[u16],
     heads: &[u16],
     answers: &mut [u16],
-    noted: &mut [u16],
+    answered: &mut [u16],
     since: usize,
     before: usize,
     j: usize,
@@ -246,10 +246,10 @@ pub fn last_place<'a>(
     found: &mut [u16],
 ) -> bool
     requires { ⌜ LastAsked (now words) (now dir) (now table) (now heads) since before j there × (now found ≡ replicate setWords 0)
-        × (length (now answers) ≡ 4096) × KeepsAnswers (now words) (now dir) (now table) (now noted) before ⌝ }
-    ensures { λ r. ⌜ KeepsAnswers (now (words .entry)) (now (dir .entry)) (now (table .entry)) (now (noted .exit)) before
+        × (length (now answers) ≡ 4096) × KeepsAnswers (now words) (now dir) (now table) (now answered) before ⌝ }
+    ensures { λ r. ⌜ KeepsAnswers (now (words .entry)) (now (dir .entry)) (now (table .entry)) (now (answered .exit)) before
         × ((w : Situation (now (words .entry)) (now (dir .entry)) (now (table .entry)) (now (heads .entry)) since before) (b : BodyOf (w .p) j)
-        → Marked (HeadMark (w .p) (now (table .entry)) since before (b .k) (suc (b .i))) (now (found .entry)) (now (found .exit))
+        → Collected (HeadMark (w .p) (now (table .entry)) since before (b .k) (suc (b .i))) (now (found .entry)) (now (found .exit))
         × Told (HeadMark (w .p) (now (table .entry)) since before (b .k) (suc (b .i))) r) ⌝ }
 {
     let newest = wide(heads[CONTS + j]);
@@ -263,7 +263,7 @@ pub fn last_place<'a>(
         heads,
         found,
         answers,
-        noted,
+        answered,
         since,
         before,
         j,

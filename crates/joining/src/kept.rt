@@ -8,7 +8,7 @@ use terms::walk::narrow;
 use terms::walk::wide;
 ghost use Prim.Native.Nat.{_^_};
 ghost use Rattle.joining.specs.Answers.{Found};
-ghost use Rattle.joining.specs.KeptAnswers.{Gained, Ordered, Recalled, NoteAsked, RecallAsked};
+ghost use Rattle.joining.specs.KeptAnswers.{Gained, Ordered, Recalled, KeepAsked, RecallAsked};
 
 pub const ANSWER_ATOMS: usize = 64;
 
@@ -19,22 +19,22 @@ const ANSWER_MASKS: usize = 256;
 pub const ANSWER_ROWS: usize = 16 * ANSWER_ATOMS;
 
 // The first `upto` answers, beside those that are kept for body atom j.
-pub fn note_answers(
+pub fn keep_answers(
     order: &[u8; 16],
     count: usize,
     answers: &[u16],
     upto: usize,
     j: usize,
-    noted: &mut [u16],
+    answered: &mut [u16],
 )
-    requires { ⌜ NoteAsked (now order) (now answers) (now noted) count upto j ⌝ }
-    ensures { λ _. ⌜ Gained (Ordered (now (order .entry)) count (now (answers .entry)) upto) j (now (noted .entry)) (now (noted .exit)) ⌝ }
+    requires { ⌜ KeepAsked (now order) (now answers) (now answered) count upto j ⌝ }
+    ensures { λ _. ⌜ Gained (Ordered (now (order .entry)) count (now (answers .entry)) upto) j (now (answered .entry)) (now (answered .exit)) ⌝ }
 {
     let mut i = 0;
     while i < upto {
         let q = ANSWER_MASKS * j + wide(renumber(order, count, answers[i]));
         let at = q / 16;
-        noted[at] = noted[at] | mark(q % 16);
+        answered[at] = answered[at] | mark(q % 16);
         i += 1;
     }
 }
@@ -43,20 +43,20 @@ pub fn note_answers(
 pub fn recall_answers(
     order: &[u8; 16],
     count: usize,
-    noted: &[u16],
+    answered: &[u16],
     j: usize,
     seen: &mut [u16],
     answers: &mut [u16],
     upto: usize,
 ) -> usize
-    requires { ⌜ RecallAsked (now order) (now seen) (now answers) (now noted) count upto j ⌝ }
-    ensures { λ r. ⌜ Found (Recalled (now (order .entry)) count (now (noted .entry)) j (2 ^ count)) (now (seen .exit)) (now (answers .exit)) upto r (now (answers .entry)) ⌝ }
+    requires { ⌜ RecallAsked (now order) (now seen) (now answers) (now answered) count upto j ⌝ }
+    ensures { λ r. ⌜ Found (Recalled (now (order .entry)) count (now (answered .entry)) j (2 ^ count)) (now (seen .exit)) (now (answers .exit)) upto r (now (answers .entry)) ⌝ }
 {
     let masks = 1usize << count;
     let mut all = upto;
     let mut q = 0;
     while q < masks {
-        if contains(noted, narrow(ANSWER_MASKS * j + q)) {
+        if contains(answered, narrow(ANSWER_MASKS * j + q)) {
             let mask = restore(order, count, narrow(q));
             if insert(seen, mask) {
                 answers[all] = mask;

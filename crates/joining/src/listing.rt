@@ -5,7 +5,7 @@ use crate::answers::settle;
 use crate::kept::ANSWER_ATOMS;
 use crate::kept::ANSWER_ROWS;
 use crate::kept::ANSWER_VARS;
-use crate::kept::note_answers;
+use crate::kept::keep_answers;
 use crate::kept::recall_answers;
 use directory::layout::BODY_CELLS;
 use directory::layout::BODY_START;
@@ -76,7 +76,7 @@ fn list_kept<'a>(
     heads: &[u16],
     seen: &mut [u16],
     answers: &mut [u16],
-    noted: &mut [u16],
+    answered: &mut [u16],
     order: &[u8; 16],
     count: usize,
     since: usize,
@@ -85,14 +85,14 @@ fn list_kept<'a>(
     newest: usize,
 ) -> Counts
     requires { ⌜ KeptAsked (now words) (now dir) (now table) (now heads) (now order) count since before j × (now seen ≡ replicate setWords 0) × (length (now answers) ≡ 4096)
-        × KeepsAnswers (now words) (now dir) (now table) (now noted) before ⌝ }
+        × KeepsAnswers (now words) (now dir) (now table) (now answered) before ⌝ }
     ensures { λ r. ⌜ (now (seen .exit) ≡ replicate setWords 0) × AnswersThere (now (answers .exit)) (r .fresh) (r .all)
-        × KeepsAnswers (now (words .entry)) (now (dir .entry)) (now (table .entry)) (now (noted .exit)) before
+        × KeepsAnswers (now (words .entry)) (now (dir .entry)) (now (table .entry)) (now (answered .exit)) before
         × ((w : Situation (now (words .entry)) (now (dir .entry)) (now (table .entry)) (now (heads .entry)) since before) (b : BodyOf (w .p) j)
         → Answered (w .p) (now (table .entry)) (b .A) since before newest (now (answers .exit)) (r .fresh) (r .all)) ⌝ }
 {
     let at = ANSWER_ROWS + j;
-    let mut known = wide(noted[at]);
+    let mut known = wide(answered[at]);
     if since < known {
         known = since;
     }
@@ -110,11 +110,11 @@ fn list_kept<'a>(
     );
     let fresh = sides.fresh;
     let settled = settle(seen, answers, fresh, sides.older);
-    note_answers(order, count, answers, settled, j, noted);
-    noted[at] = narrow(before);
+    keep_answers(order, count, answers, settled, j, answered);
+    answered[at] = narrow(before);
     let mut all = settled;
     if since < newest {
-        all = recall_answers(order, count, noted, j, seen, answers, settled);
+        all = recall_answers(order, count, answered, j, seen, answers, settled);
     }
     forget(seen, answers, all);
     Counts {
@@ -131,16 +131,16 @@ pub fn list_answers<'a>(
     heads: &[u16],
     seen: &mut [u16],
     answers: &mut [u16],
-    noted: &mut [u16],
+    answered: &mut [u16],
     since: usize,
     before: usize,
     j: usize,
     newest: usize,
 ) -> Counts
     requires { ⌜ BodyAsked (now words) (now dir) (now table) (now heads) since before j × (now seen ≡ replicate setWords 0) × (length (now answers) ≡ 4096)
-        × KeepsAnswers (now words) (now dir) (now table) (now noted) before ⌝ }
+        × KeepsAnswers (now words) (now dir) (now table) (now answered) before ⌝ }
     ensures { λ r. ⌜ (now (seen .exit) ≡ replicate setWords 0) × AnswersThere (now (answers .exit)) (r .fresh) (r .all)
-        × KeepsAnswers (now (words .entry)) (now (dir .entry)) (now (table .entry)) (now (noted .exit)) before
+        × KeepsAnswers (now (words .entry)) (now (dir .entry)) (now (table .entry)) (now (answered .exit)) before
         × ((w : Situation (now (words .entry)) (now (dir .entry)) (now (table .entry)) (now (heads .entry)) since before) (b : BodyOf (w .p) j)
         → Answered (w .p) (now (table .entry)) (b .A) since before newest (now (answers .exit)) (r .fresh) (r .all)) ⌝ }
 {
@@ -157,7 +157,7 @@ pub fn list_answers<'a>(
                 heads,
                 seen,
                 answers,
-                noted,
+                answered,
                 &order,
                 count,
                 since,

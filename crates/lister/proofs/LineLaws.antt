@@ -7,13 +7,14 @@ use lib.ListN.{length, getD, take, drop, take-append-drop, length-append}
 use lib.Seq.{length-take-le}
 use Rattle.terms.specs.Term.{Term}
 use Rattle.program.specs.Program.{Nth, here, there, Program}
+use Rattle.program.specs.Limits.{rowSize}
 use Rattle.program.proofs.ShapeLaws.{nth-member}
 use Rattle.directory.specs.Layout.{shapeCount}
 use Rattle.directory.proofs.DirectoryLaws.{shape-under}
 use Rattle.program.proofs.Nths.{nth-below, below-nth}
 use Rattle.directory.proofs.Cuts.{nth-take}
 use Rattle.table.specs.Rules.{Row, call, cont, solution}
-use Rattle.table.specs.Table.{Entry, rowSize, rowWords, entryWords, tableWords}
+use Rattle.table.specs.Table.{Entry, rowWords, entryWords, tableWords}
 use Rattle.table.proofs.Promise.{table-words-length}
 use Rattle.steps.proofs.Meetings.{setting-within}
 use Rattle.written_lines.specs.Walked.{Named}

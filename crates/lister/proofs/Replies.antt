@@ -8,11 +8,12 @@ use Rattle.program.specs.Program.{Program}
 use Rattle.program.specs.Faults.{Found, fault, sound, faults, replyOf}
 use Rattle.program.specs.Reply.{accepted, noRoom, refused, done}
 use Rattle.program.specs.declared.reply.Reply.{Reply}
+use Rattle.program.specs.Limits.{rowSize}
 use Rattle.program.proofs.ProgramWords.{sound-within}
 use Rattle.directory.proofs.AcceptedWords.{said-is, first-three, predicate-count, function-count}
 use Rattle.directory.specs.Directory.{Directory}
 use Rattle.table.specs.Promise.{faulty, listed, full}
-use Rattle.table.specs.Table.{Entry, rowSize, tableWords, Promise}
+use Rattle.table.specs.Table.{Entry, tableWords, Promise}
 use Rattle.table.specs.Keys.{Regular}
 use Rattle.program.proofs.FoundLaws.{fault-or-sound, sound-same}
 use Rattle.table.proofs.Promise.{table-once, accepted-listed, refused-zeros}

@@ -11,12 +11,13 @@ use Rattle.terms.specs.Mask.{Marks}
 use Rattle.terms.proofs.Masks.{marks-for}
 use Rattle.program.specs.Program.{Nth, Clause, Program}
 use Rattle.program.specs.Shapes.{shapes, Listed}
+use Rattle.program.specs.Limits.{rowSize, maxShapes}
 use Rattle.program.proofs.ShapeLaws.{nth-getD}
-use Rattle.directory.specs.Layout.{bodyList, clauseFirst, shapeVars, dirWords, maxShapes}
+use Rattle.directory.specs.Layout.{bodyList, clauseFirst, shapeVars, dirWords}
 use Rattle.directory.specs.Directory.{Directory}
 use Rattle.program.proofs.Nths.{nth-below}
 use Rattle.table.specs.Rules.{Row, call, cont, solution}
-use Rattle.table.specs.Table.{rowSize, rowWords}
+use Rattle.table.specs.Table.{rowWords}
 use Rattle.table.specs.Keys.{Regular, regular-call, regular-cont, regular-solution}
 use Rattle.steps.proofs.Meetings.{setting-within}
 use Rattle.text.specs.Decimal.{decimal}

@@ -6,7 +6,8 @@ use mathlib.Core.List.{List, [], _++_}
 use lib.ListN.{length, getD, take, drop, take-append-drop}
 use Rattle.terms.specs.Cells.{enc, Atom}
 use Rattle.program.specs.Shapes.{shapes}
-use Rattle.directory.specs.Layout.{functionsStart, clausesStart, shapeStart, shapeCells, predicatesStart, maxShapes, dirWords}
+use Rattle.program.specs.Limits.{maxShapes}
+use Rattle.directory.specs.Layout.{functionsStart, clausesStart, shapeStart, shapeCells, predicatesStart, dirWords}
 use Rattle.directory.specs.Directory.{Directory, ShapeAt}
 use Rattle.directory.specs.From.{Atom-from}
 use Rattle.program.proofs.Nths.{nth-below}

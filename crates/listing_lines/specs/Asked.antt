@@ -8,8 +8,9 @@ use lib.Dec.{eqb}
 use Rattle.terms.specs.Term.{Term, Occ}
 use Rattle.program.specs.Program.{Nth, Program}
 use Rattle.program.specs.Shapes.{shapes, Listed}
+use Rattle.program.specs.Limits.{rowSize}
 use Rattle.table.specs.Rules.{Row, call, cont, solution}
-use Rattle.table.specs.Table.{rowSize, rowWords}
+use Rattle.table.specs.Table.{rowWords}
 use Rattle.table.specs.Keys.{Regular}
 use Rattle.steps.specs.Situation.{Setting}
 use Rattle.text.specs.Decimal.{decimal}

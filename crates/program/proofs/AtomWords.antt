@@ -1,16 +1,16 @@
 -- The atoms that are read from words are the atoms whose cells the words are, both ways.
 use Prim.Native.Nat.{ℕ, zero, suc, _≤_, _<_}
 use native.Mathlib.Omega.{arith}
-use mathlib.Core.Path.{_≡_, refl, sym, ap, ap₂, _∙_}
+use mathlib.Core.Path.{_≡_, refl, sym, ap, _∙_}
 use mathlib.Core.Bool.{Bool, true, false}
 use mathlib.Core.List.{List, [], _∷_, _++_, append-assoc}
 use lib.ListN.{length, getD}
 use lib.Dec.{ltb}
 use borrow.Author.Tests.{lt-ltb, ltb-true}
 use Rattle.terms.specs.Term.{Term, Terms, app, count}
-use Rattle.terms.specs.Cells.{enc, encs, Keepss, atomCells, Atom}
+use Rattle.terms.specs.Cells.{enc, Keepss, atomCells, Atom, pick}
 use Rattle.program.specs.Reply.{undeclared}
-use Rattle.program.specs.Reading.{Read, wrong, right, next, pick}
+use Rattle.program.specs.Reading.{Read, wrong, right, next}
 use Rattle.program.specs.Atoms.{terms, atom, atoms}
 use Rattle.program.specs.Within.{Each, none, more, after, Numbered, NumberedAll, encodeAtoms}
 use Rattle.program.proofs.Words.{next-right}

@@ -6,10 +6,10 @@ use mathlib.Core.List.{List, [], _∷_}
 use lib.ListN.{length, getD}
 use lib.Dec.{ltb, leb}
 use Rattle.terms.specs.Term.{Terms}
-use Rattle.terms.specs.Cells.{firstVariable, atomCells}
+use Rattle.terms.specs.Cells.{firstVariable, atomCells, pick}
 use Rattle.program.specs.Limits.{maxWords, maxVariable, minPredicates, maxDeclared, maxArity, maxBody, anyMode, groundMode}
 use Rattle.program.specs.Reply.{outOfRange, badGoal, badVariable, longAtom, undeclared, tooLong, noRoom, withdrawn}
-use Rattle.program.specs.Reading.{Read, wrong, right, next, pick, bounded, several}
+use Rattle.program.specs.Reading.{Read, wrong, right, next, bounded, several}
 use Rattle.program.specs.Atoms.{meet, variableOf, symbolOf, cellOf, opened, terms, atom, atoms}
 use Rattle.program.specs.Program.{Program}
 use Rattle.program.specs.Faults.{clause, goal, ended, arities, written, declared, whole, Found, fault, sound, foundIn, faults, replyOf}

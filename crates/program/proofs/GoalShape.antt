@@ -9,10 +9,10 @@ use lib.ListN.{length, getD}
 use lib.Dec.{ltb}
 use borrow.Author.Tests.{ltb-true, ltb-false}
 use Rattle.terms.specs.Term.{Term, Terms, app, nil, cons}
-use Rattle.terms.specs.Cells.{firstVariable, atomCells, takeTerms, dropTerms}
+use Rattle.terms.specs.Cells.{firstVariable, atomCells, takeTerms, dropTerms, pick}
 use Rattle.program.specs.Limits.{maxWords, maxVariable, minPredicates, maxDeclared, anyMode, groundMode}
 use Rattle.program.specs.Reply.{outOfRange, badGoal, badVariable, longAtom, undeclared, tooLong}
-use Rattle.program.specs.Reading.{Read, wrong, right, next, pick, bounded, several}
+use Rattle.program.specs.Reading.{Read, wrong, right, next, bounded, several}
 use Rattle.program.specs.Atoms.{meet, variableOf, symbolOf, cellOf, opened, terms, atom}
 use Rattle.program.specs.Faults.{goal, ended, arities, clause, written, declared, whole, Found, fault, sound, foundIn, faults}
 use Rattle.program.specs.Program.{Program}

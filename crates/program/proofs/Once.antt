@@ -2,16 +2,14 @@
 use Prim.Native.Nat.{ℕ, zero, suc}
 use native.Mathlib.Omega.{arith}
 use mathlib.Core.Path.{_≡_, refl, sym, ap, _∙_}
-use mathlib.Core.Logic.{_⊎_, inl, inr}
-use mathlib.Core.List.{List, [], _∷_, _++_, map}
+use mathlib.Core.Logic.{_⊎_, inl, inr, ⊎-elim}
+use mathlib.Core.List.{List, [], _∷_, _++_, map, List·Memᴰ·not-nil}
 use lib.ListN.{length}
+use Rattle.program.specs.Lists.{Distinct}
 use Rattle.program.specs.Program.{Nth, here, there}
 use Rattle.program.specs.Shapes.{place, with}
 use Rattle.program.proofs.Nths.{nth-below, nth-left, nth-last, last-nth}
-
--- no two places of the list have the same
-abbrev pub Distinct : {A : Type 0} → List A → Type 0
-Distinct {A} l = (i j : ℕ) (a : A) → Nth l i a → Nth l j a → i ≡ j
+use Rattle.program.proofs.ShapeLaws.{has-with}
 
 -- a stands somewhere in the list
 abbrev pub Somewhere : {A : Type 0} → List A → A → Type 0
@@ -84,25 +82,13 @@ module _ {A : Type 0} (same : Discrete A) where
       by zero n (no d) ih = absurd (d (nth-first n))
       by (suc i) n (no d) ih = rw (place-there a b l d) (there (ih i (nth-later n)))
 
-  -- in a list in which each stands once, the place is the one
-  pub place-is : (a : A) (l : List A) (i : ℕ) → Distinct l → Nth l i a → place same a l ≡ i
-  place-is a l i d n = d (place same a l) i a (place-stands a l i n) n
-
-  last-distinct : (l : List A) (a : A) → Distinct l → (Somewhere l a → ⊥) → Distinct (l ++ a ∷ [])
-  last-distinct l a d no-a i j b n m = by (nth-last l n) (nth-last l m)
-    where
-      by : Nth l i b ⊎ ((i ≡ length l) × (a ≡ b)) → Nth l j b ⊎ ((j ≡ length l) × (a ≡ b)) → i ≡ j
-      by (inl x) (inl y) = d i j b x y
-      by (inl x) (inr y) = absurd (no-a (i, rw (y .1) x))
-      by (inr x) (inl y) = absurd (no-a (j, rw (x .1) y))
-      by (inr x) (inr y) = x .0 ∙ sym (y .0)
-
   pub with-distinct : (l : List A) (a : A) → Distinct l → Distinct (with same l a)
-  with-distinct l a d = by (with-cases l a)
+  with-distinct [] a d = (λ m. List·Memᴰ·not-nil m, tt)
+  with-distinct (b ∷ l) a (nb, d) = by (same a b) (with-distinct l a d)
     where
-      by : ((with same l a ≡ l) × Somewhere l a) ⊎ ((with same l a ≡ l ++ a ∷ []) × (Somewhere l a → ⊥)) → Distinct (with same l a)
-      by (inl w) = rw (w .0) d
-      by (inr w) = rw (w .0) (last-distinct l a d (w .1))
+      by : Dec (a ≡ b) → Distinct (with same l a) → Distinct (with same (b ∷ l) a)
+      by (yes e) r = rw (with-here a b l e) (nb, d)
+      by (no n) r = rw (with-there a b l n) (λ m. ⊎-elim nb (λ e. n (sym e)) (has-with same l a b m), r)
 
   pub with-stands : (l : List A) (a : A) → Somewhere (with same l a) a
   with-stands l a = by (with-cases l a)

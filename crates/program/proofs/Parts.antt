@@ -4,7 +4,7 @@ use native.Mathlib.Omega.{arith}
 use native.Mathlib.Numerals.{add-one}
 use mathlib.Core.Path.{_≡_, refl, sym, ap, _∙_}
 use mathlib.Core.Bool.{Bool, true, false}
-use mathlib.Core.List.{List, [], _∷_}
+use mathlib.Core.List.{List, _∷_}
 use lib.ListN.{length, drop, getD, drop-of-length-le}
 use lib.Seq.{drop-cons}
 use lib.Dec.{ltb}
@@ -13,7 +13,7 @@ use Rattle.terms.specs.declared.cursor.Cursor.{Cursor}
 use Rattle.terms.specs.declared.cursor.Step.the-variants.{Cell, End}
 use Rattle.terms.specs.Cursor.{stepAt, pickStep}
 use Rattle.program.specs.Reply.{tooSoon}
-use Rattle.program.specs.Reading.{Read, wrong, right, next, pick, bounded, several}
+use Rattle.program.specs.Reading.{Read, wrong, right, next, bounded, several}
 use Rattle.program.specs.Part.{Meets, itself, none}
 use Rattle.program.specs.declared.part.Part.{Part}
 use Rattle.program.specs.declared.part.Part.the-variants.{Fault, Next}

@@ -1,19 +1,19 @@
 -- An accepted program's words are its encoding, it is within the limits, and every program within the limits is accepted.
-use Prim.Native.Nat.{ℕ, zero, suc, _-_, _^_, _≤_, _<_}
+use Prim.Native.Nat.{ℕ, _-_, _^_, _≤_, _<_}
 use native.Mathlib.Omega.{arith}
-use mathlib.Core.Path.{_≡_, refl, sym, ap, ap₂, _∙_}
+use mathlib.Core.Path.{_≡_, refl, sym, ap, _∙_}
 use mathlib.Core.Bool.{Bool, true, false}
 use mathlib.Core.List.{List, [], _∷_, _++_, append-nil}
 use lib.ListN.{length}
 use lib.Dec.{ltb}
 use borrow.Author.Tests.{le-ltb, ltb-false}
 use Rattle.terms.specs.Term.{Term}
-use Rattle.terms.specs.Cells.{enc, Atom}
+use Rattle.terms.specs.Cells.{enc, Atom, pick}
 use Rattle.program.specs.Limits.{maxWords, minPredicates, maxDeclared, maxArity}
-use Rattle.program.specs.Reply.{outOfRange, follows, tooLong}
-use Rattle.program.specs.Reading.{Read, wrong, right, next, pick, bounded, several}
+use Rattle.program.specs.Reply.{outOfRange, tooLong}
+use Rattle.program.specs.Reading.{Read, wrong, right, next, bounded, several}
 use Rattle.program.specs.Program.{Clause, Program}
-use Rattle.program.specs.Faults.{clause, goal, ended, arities, written, declared, whole, Found, fault, sound, foundIn, faults}
+use Rattle.program.specs.Faults.{clause, goal, ended, arities, written, declared, whole, fault, sound, foundIn, faults}
 use Rattle.program.specs.Within.{Each, after, Numbered, modesOf, encodeClauses, encode, WithinClause, WithinLimits}
 use Rattle.program.proofs.Words.{Bounded, Read-words, next-right, bounded-read, read-bounded, several-read, read-several}
 use Rattle.program.proofs.ClauseWords.{Clauses-read, Goal-read, clauses-read, goal-read, read-clauses, read-goal}

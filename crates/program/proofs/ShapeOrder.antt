@@ -5,9 +5,10 @@ use mathlib.Core.Path.{_≡_, refl, sym, ap, _∙_}
 use mathlib.Core.Logic.{_⊎_, inl, inr}
 use mathlib.Core.List.{List, [], _∷_, _++_, map, append-assoc, append-nil, map-append}
 use Rattle.terms.specs.Term.{Term, sameTerm}
+use Rattle.program.specs.Lists.{Distinct}
 use Rattle.program.specs.Program.{Nth, here, there, Program, bodies}
 use Rattle.program.specs.Shapes.{with, shapeOf, distinct, shapes, shapeNumber}
-use Rattle.program.proofs.Once.{Distinct, Somewhere, nth-first, nth-later, nth-map, map-nth, with-cases, with-distinct, with-stands, with-keeps, with-sound, place-stands}
+use Rattle.program.proofs.Once.{Somewhere, nth-first, nth-later, nth-map, map-nth, with-cases, with-distinct, with-stands, with-keeps, with-sound, place-stands}
 use Rattle.program.proofs.Nths.{nth-below}
 
 -- what was seen keeps its number
@@ -54,7 +55,7 @@ distinct-extends (t ∷ ts) seen = by (with-cases sameTerm seen t) (distinct-ext
 module _ (p : Program) where
   -- "each distinct shape numbered once"
   pub shapes-distinct : Distinct (shapes p)
-  shapes-distinct = distinct-distinct (shapeOf (p .goal) ∷ map shapeOf (bodies (p .clauses))) [] (λ i j s n m. let h = nth-below n in absurd (omega arith))
+  shapes-distinct = distinct-distinct (shapeOf (p .goal) ∷ map shapeOf (bodies (p .clauses))) [] tt
 
   -- "Shape 0 is the goal's"
   pub shapes-goal : Nth (shapes p) zero (shapeOf (p .goal))

@@ -2,28 +2,27 @@
 use Prim.Native.Nat.{ℕ, zero, suc, _+_, _-_, _≤_, _<_}
 use native.Mathlib.Omega.{arith}
 use native.Mathlib.Numerals.{add-one}
-use mathlib.Core.Path.{_≡_, refl, sym, ap, _∙_}
+use mathlib.Core.Path.{_≡_, refl, sym, ap}
 use mathlib.Core.Bool.{Bool, true, false}
 use mathlib.Core.List.{List, [], _∷_}
 use lib.ListN.{length, drop, getD, drop-of-length-le}
 use lib.Seq.{drop-cons}
 use lib.Dec.{ltb}
 use borrow.Author.Tests.{lt-ltb, le-ltb, ltb-true, ltb-false}
-use Rattle.terms.specs.Term.{Terms, Term, app, nil}
-use Rattle.terms.specs.Cells.{atomCells, firstVariable}
+use Rattle.terms.specs.Term.{nil}
+use Rattle.terms.specs.Cells.{atomCells, firstVariable, pick}
 use Rattle.terms.specs.declared.cursor.Cursor.{Cursor}
 use Rattle.program.specs.Limits.{maxVariable}
 use Rattle.program.specs.Reply.{tooSoon, longAtom, undeclared, badVariable}
-use Rattle.program.specs.Reading.{Read, wrong, right, next, pick}
-use Rattle.program.specs.Atoms.{meet, variableOf, symbolOf, cellOf, build, opened, terms, atom, atoms}
+use Rattle.program.specs.Reading.{right}
+use Rattle.program.specs.Atoms.{meet, variableOf, symbolOf, cellOf, build, opened, terms}
 use Rattle.program.specs.Part.{Meets, met, takenOf, takenAt}
 use Rattle.program.specs.declared.part.Part.{Part}
 use Rattle.program.specs.declared.part.Part.the-variants.{Fault, Next}
 use Rattle.program.specs.declared.cells.Cell.{Cell}
 use Rattle.program.specs.declared.cells.Cell.the-variants.{Bad, Opens}
-use Rattle.program.specs.declared.cells.Taken.{Taken}
 use Rattle.program.specs.declared.cells.Taken.the-variants as takes
-use Rattle.program.proofs.Parts.{Stands, from-here, meets-fault, meets-next, meets-map}
+use Rattle.program.proofs.Parts.{Stands, meets-map}
 
 module _ (functions : List ℕ) (taken seen : ℕ) (words : List ℕ) where
   pub taken-end : (at : ℕ) → length words ≤ at → takes.Fault tooSoon at ≡ takenAt functions taken seen words at

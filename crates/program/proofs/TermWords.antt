@@ -7,11 +7,11 @@ use lib.ListN.{length, getD}
 use lib.Dec.{ltb}
 use borrow.Author.Tests.{lt-ltb, le-ltb, ltb-true, ltb-false}
 use Rattle.terms.specs.Term.{Terms, nil, cons, count}
-use Rattle.terms.specs.Cells.{encs, Keepss, atomCells, firstVariable, variables, takeTerms, dropTerms}
+use Rattle.terms.specs.Cells.{encs, Keepss, atomCells, firstVariable, variables, takeTerms, dropTerms, pick}
 use Rattle.terms.proofs.Runs.{encs-split, count-take, count-drop, keeps-take, keeps-drop}
 use Rattle.program.specs.Limits.{maxVariable}
 use Rattle.program.specs.Reply.{tooSoon, undeclared, badVariable, longAtom}
-use Rattle.program.specs.Reading.{Read, wrong, right, pick}
+use Rattle.program.specs.Reading.{Read, wrong, right}
 use Rattle.program.specs.Atoms.{meet, variableOf, symbolOf, cellOf, build, opened, terms}
 use Rattle.program.specs.Within.{after, afters, Numbereds}
 use Rattle.program.specs.declared.cells.Cell.{Cell}

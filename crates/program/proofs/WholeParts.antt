@@ -1,15 +1,15 @@
 -- How the code's answers for the parts of a program go together, to the reply.
-use Prim.Native.Nat.{ℕ, zero, suc, _-_, _≤_, _<_}
+use Prim.Native.Nat.{ℕ, _-_, _≤_, _<_}
 use native.Mathlib.Omega.{arith}
-use mathlib.Core.Path.{_≡_, refl, sym, ap, _∙_}
-use mathlib.Core.List.{List, [], _∷_}
-use lib.ListN.{length, take, drop, getD, length-drop, drop-of-length-le}
+use mathlib.Core.Path.{_≡_, refl, sym}
+use mathlib.Core.List.{List}
+use lib.ListN.{length, take, drop, length-drop, drop-of-length-le}
 use lib.Seq.{drop-cons}
 use borrow.Author.Tests.{lt-ltb, le-ltb}
 use Rattle.terms.specs.Term.{Term}
 use Rattle.terms.specs.declared.cursor.Cursor.{Cursor}
 use Rattle.program.specs.Limits.{maxWords, minPredicates, maxDeclared, maxArity}
-use Rattle.program.specs.Reply.{accepted, outOfRange, follows, tooLong, refused, done}
+use Rattle.program.specs.Reply.{outOfRange, follows, tooLong, refused, done}
 use Rattle.program.specs.Reading.{Read, wrong, right, next, bounded, several}
 use Rattle.program.specs.Program.{Clause, Program}
 use Rattle.program.specs.Faults.{clause, goal, ended, arities, written, declared, whole, faults, replyOf, foundIn}
@@ -17,7 +17,7 @@ use Rattle.program.specs.Part.{Meets, itself, none}
 use Rattle.program.specs.declared.part.Part.{Part}
 use Rattle.program.specs.declared.part.Part.the-variants.{Fault, Next}
 use Rattle.program.proofs.Parts.{meets-fault, meets-next, meets-right}
-use Rattle.program.proofs.Words.{several-read, between}
+use Rattle.program.proofs.Words.{several-read, part-between}
 
 module _ (words : List ℕ) where
   ended-follows : {A : Type 0} (a : A) (at : ℕ) → at < length words → Meets words none (Fault follows at) (ended a (drop at words))
@@ -75,7 +75,7 @@ module _ (words : List ℕ) where
       pub predicates-span : (ps : List ℕ) → arities p (drop from words) ≡ right ps (drop (second .at) words)
           → (from ≤ second .at) × (take (second .at - from) (drop from words) ≡ ps)
       predicates-span ps e =
-          between words ps from (second .at) inside (meets-right words none v second (arities p (drop from words)) predicates-read .2)
+          part-between words ps from (second .at) inside (meets-right words none v second (arities p (drop from words)) predicates-read .2)
           (several-read outOfRange maxArity p ps (drop from words) (drop (second .at) words) e .are)
 
       past-predicates : (r : Part) → Meets words none r (behindPredicates (take (second .at - from) (drop from words)) (drop (second .at) words))
@@ -99,7 +99,7 @@ module _ (words : List ℕ) where
         functions-span : (fs : List ℕ) → arities f (drop (second .at) words) ≡ right fs (drop (third .at) words)
             → (second .at ≤ third .at) × (take (third .at - second .at) (drop (second .at) words) ≡ fs)
         functions-span fs e =
-            between words fs (second .at) (third .at)
+            part-between words fs (second .at) (third .at)
             (meets-right words none v second (arities p (drop from words)) predicates-read .2)
             (meets-right words none u third (arities f (drop (second .at) words)) functions-read .2)
             (several-read outOfRange maxArity f fs (drop (second .at) words) (drop (third .at) words) e .are)

@@ -1,15 +1,16 @@
 -- Words that are read one by one: what is handed out are the words themselves.
 use Prim.Native.Nat.{ℕ, zero, suc, _+_, _-_, _≤_}
 use native.Mathlib.Omega.{arith}
-use mathlib.Core.Path.{_≡_, refl, sym, ap, _∙_}
+use mathlib.Core.Path.{_≡_, refl, ap, _∙_}
 use mathlib.Core.Bool.{Bool, true, false}
 use mathlib.Core.List.{List, [], _∷_, _++_}
 use lib.ListN.{length, take, drop, length-append, length-drop}
 use lib.Seq.{take-at}
 use lib.Dec.{leb}
 use borrow.Author.Tests.{leb-true, le-leb}
+use Rattle.terms.specs.Cells.{pick}
 use Rattle.program.specs.Within.{Each, none, more}
-use Rattle.program.specs.Reading.{Read, wrong, right, next, pick, bounded, several}
+use Rattle.program.specs.Reading.{Read, wrong, right, next, bounded, several}
 
 -- what two parts come to, come to one after the other
 pub next-right : {A B : Type 0} (r : Read A) (f : A → List ℕ → Read B) (b : B) (rest : List ℕ) → next r f ≡ right b rest
@@ -80,9 +81,9 @@ read-several number high (x ∷ xs) rest (more h each) =
     rw (read-bounded number 0 high x (xs ++ rest) (omega arith) h) (rw (read-several number high xs rest each))
 
 -- words between two places of a list
-pub between : (words xs : List ℕ) (from to : ℕ) → from ≤ length words → to ≤ length words → drop from words ≡ xs ++ drop to words
+pub part-between : (words xs : List ℕ) (from to : ℕ) → from ≤ length words → to ≤ length words → drop from words ≡ xs ++ drop to words
     → (from ≤ to) × (take (to - from) (drop from words) ≡ xs)
-between words xs from to h l e =
+part-between words xs from to h l e =
     let sizes : length words - from ≡ length xs + (length words - to) = rw (← length-drop from words, ← length-drop to words) (ap length e ∙ length-append xs (drop to words)) in
     let size : length xs ≡ to - from = omega arith in
     (omega arith, rw e (take-at xs (drop to words) (to - from) size))

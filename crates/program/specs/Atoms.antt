@@ -4,10 +4,10 @@ use mathlib.Core.List.{List, [], _∷_}
 use lib.ListN.{length, getD}
 use lib.Dec.{ltb}
 use Rattle.terms.specs.Term.{Term, Terms, var, app, nil, cons}
-use Rattle.terms.specs.Cells.{firstVariable, atomCells, takeTerms, dropTerms}
+use Rattle.terms.specs.Cells.{firstVariable, atomCells, takeTerms, dropTerms, pick}
 use Rattle.program.specs.Limits.{maxVariable}
 use Rattle.program.specs.Reply.{tooSoon, undeclared, badVariable, longAtom}
-use Rattle.program.specs.Reading.{Read, wrong, right, next, pick}
+use Rattle.program.specs.Reading.{Read, wrong, right, next}
 use Rattle.program.specs.declared.cells.Cell.{Cell}
 use Rattle.program.specs.declared.cells.Cell.the-variants.{Bad, Opens}
 

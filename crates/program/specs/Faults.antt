@@ -1,12 +1,13 @@
 -- The faults of an encoded program, from left to right, and the program that it says where there is none.
-use Prim.Native.Nat.{ℕ, zero, suc, _+_, _*_, _-_}
+use Prim.Native.Nat.{ℕ, _+_, _*_, _-_}
 use mathlib.Core.List.{List, [], _∷_}
 use lib.ListN.{length}
 use lib.Dec.{ltb}
 use Rattle.terms.specs.Term.{Term}
+use Rattle.terms.specs.Cells.{pick}
 use Rattle.program.specs.Limits.{maxWords, minPredicates, maxDeclared, maxArity, maxBody, anyMode, groundMode}
 use Rattle.program.specs.Reply.{outOfRange, badGoal, follows, tooLong, refused, done}
-use Rattle.program.specs.Reading.{Read, wrong, right, next, pick, bounded, several}
+use Rattle.program.specs.Reading.{Read, wrong, right, next, bounded, several}
 use Rattle.program.specs.Atoms.{atom, atoms}
 use Rattle.program.specs.Program.{Clause, Program}
 use Rattle.program.specs.declared.reply.Reply.{Reply}

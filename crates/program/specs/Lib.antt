@@ -1,5 +1,6 @@
 -- The encoded program: what it says, its faults, its shapes.
 pub mod Limits
+pub mod Lists
 pub mod Reply
 pub mod Program
 pub mod Reading

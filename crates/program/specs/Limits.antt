@@ -1,5 +1,5 @@
 -- The limits of an encoded program and of a table.
-use Prim.Native.Nat.{ℕ}
+use Prim.Native.Nat.{ℕ, _+_, _*_}
 
 -- "A lent slice of 16-bit words, at most 2,048"
 abbrev pub maxWords : ℕ
@@ -24,12 +24,27 @@ maxBody = 16
 abbrev pub maxVariable : ℕ
 maxVariable = 15
 
+-- masks of variables are below this
+abbrev pub masks : ℕ
+masks = 65536
+
+-- so many body atoms, and with the goal so many shapes
+abbrev pub maxBodies : ℕ
+maxBodies = maxDeclared * maxBody
+
+abbrev pub maxShapes : ℕ
+maxShapes = maxBodies + 1
+
 -- "k modes (0 any, 1 ground)"
 abbrev pub anyMode : ℕ
 anyMode = 0
 
 abbrev pub groundMode : ℕ
 groundMode = 1
+
+-- "A row is five words: round, kind, a, b, mask."
+abbrev pub rowSize : ℕ
+rowSize = 5
 
 -- "The room in rows is the length over five, rounded down, but at most 4,096."
 abbrev pub maxRows : ℕ

@@ -4,8 +4,9 @@ use mathlib.Core.Path.{_≡_}
 use mathlib.Core.List.{List}
 use lib.ListN.{length, drop, getD}
 use lib.Dec.{ltb}
+use Rattle.terms.specs.Cells.{pick}
 use Rattle.program.specs.Reply.{tooSoon}
-use Rattle.program.specs.Reading.{Read, wrong, right, pick}
+use Rattle.program.specs.Reading.{Read, wrong, right}
 use Rattle.program.specs.Atoms.{cellOf}
 use Rattle.program.specs.declared.part.Part.{Part}
 use Rattle.program.specs.declared.part.Part.the-variants.{Fault, Next}

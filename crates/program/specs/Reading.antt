@@ -1,8 +1,8 @@
 -- Reading words from left to right: what a part of them comes to, and one part after another.
 use Prim.Native.Nat.{ℕ, zero, suc}
-use mathlib.Core.Bool.{Bool, true, false}
 use mathlib.Core.List.{List, [], _∷_}
 use lib.Dec.{leb}
+use Rattle.terms.specs.Cells.{pick}
 use Rattle.program.specs.Reply.{tooSoon}
 
 pub data Read (A : Type 0) : Type 0 where
@@ -15,10 +15,6 @@ pub data Read (A : Type 0) : Type 0 where
 abbrev pub next : {A B : Type 0} → Read A → (A → List ℕ → Read B) → Read B
 next (wrong number rest) f = wrong number rest
 next (right a rest) f = f a rest
-
-abbrev pub pick : {A : Type 0} → Bool → A → A → A
-pick true a b = a
-pick false a b = b
 
 -- a word from low to high; else it is the fault of this number
 unfoldable pub bounded : ℕ → ℕ → ℕ → List ℕ → Read ℕ

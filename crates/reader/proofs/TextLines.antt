@@ -11,6 +11,7 @@ use lib.Dec.{eqb}
 use borrow.Author.Tests.{lt-ltb, le-ltb}
 use Rattle.program.specs.Limits.{maxWords}
 use Rattle.program.specs.Reply.{tooSoon, follows}
+use Rattle.program.specs.Lists.{between}
 use Rattle.text.specs.Line.{upTo, parts, onto, behind, tab, lineFeed}
 use Rattle.text.specs.Name.{nameBytes, maxNames}
 use Rattle.text.specs.Room.{inRoom}
@@ -20,7 +21,6 @@ use Rattle.declarations.specs.declared.lined.Lined.{Lined}
 use Rattle.declarations.specs.declared.lined.Lined.the-variants.{Fault, More, Last}
 use Rattle.cells.specs.Table.{Table, Read, wrong, right, nothing, Scenario, Line, more, last}
 use Rattle.text_lines.specs.Lines.{fieldsOf, ending, linesOf, allLines}
-use Rattle.cells.specs.Between.{between}
 use Rattle.cells.specs.Room.{tableOf}
 use Rattle.declarations.specs.Held.{Holds, LinedAs, Limited}
 use Rattle.reader.specs.Found.{FoundAs}

@@ -10,9 +10,8 @@ use lib.ListN.{length, getD, length-append}
 use lib.Dec.{ltb}
 use borrow.Author.Tests.{lt-ltb, le-ltb, ltb-false, ne-eqb}
 use Rattle.terms.specs.Term.{Term, Terms, var, app, nil, cons, count}
-use Rattle.terms.specs.Cells.{firstVariable, atomCells, enc, encs, Keeps, Keepss, Atom}
+use Rattle.terms.specs.Cells.{firstVariable, atomCells, enc, encs, Keeps, Keepss, Atom, pick}
 use Rattle.program.specs.Limits.{maxBody}
-use Rattle.program.specs.Reading.{pick}
 use Rattle.program.specs.Atoms.{meet}
 use Rattle.program.specs.Within.{after, afters, Numbered, Numbereds}
 use Rattle.cells.specs.declared.look.Look.{Look}

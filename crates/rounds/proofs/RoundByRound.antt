@@ -2,23 +2,24 @@
 use Prim.Native.Nat.{ℕ, zero, suc, _+_, _*_, _≤_, _<_}
 use native.Mathlib.Omega.{arith}
 use native.Mathlib.Decide.{decLt}
-use mathlib.Core.Path.{_≡_, refl, sym, ap, subst, _∙_}
+use mathlib.Core.Path.{_≡_, refl, ap, subst, _∙_}
 use mathlib.Core.Logic.{_⊎_, inl, inr, ⊎-elim, _↔_}
-use mathlib.Core.List.{List, [], _∷_, _++_, List·Memᴰ, List·Memᴰ·not-nil}
-use lib.ListN.{length, getD, replicate, length-replicate}
+use mathlib.Core.List.{List, [], _∷_, List·Memᴰ, List·Memᴰ·not-nil}
+use lib.ListN.{length, replicate, length-replicate}
 use Rattle.marks.specs.Modes.{modes}
 use Rattle.program.specs.Program.{Program}
+use Rattle.program.specs.Limits.{rowSize}
 use Rattle.program.proofs.ProgramWords.{sound-within}
-use Rattle.rows.specs.Rows.{rowSize, slots, roundAt, maskAt, keyAt, keysOf, keyOf as rowKey}
-use Rattle.rows.specs.Store.{Store, SameRows, Grown, Added, there, new, full}
+use Rattle.rows.specs.Rows.{slots, roundAt, maskAt, keyAt, keysOf, keyOf}
+use Rattle.rows.specs.Store.{Added, there, new, full}
 use Rattle.rows.specs.Linked.{BySlot, Linked}
-use Rattle.rows.proofs.Keys.{key-listed, listed-key, keys-length}
+use Rattle.rows.proofs.Keys.{key-listed, listed-key}
 use Rattle.rows.proofs.Adding.{same-key}
-use Rattle.rows.proofs.Linking.{befores-round, befores-mask, befores-key, befores-keys, befores-store, by-slot-same, no-chains}
-use Rattle.table.specs.Rules.{Row, call, Gives}
+use Rattle.rows.proofs.Linking.{befores-round, befores-key, befores-keys, befores-store, by-slot-same, no-chains}
+use Rattle.table.specs.Rules.{Row, call}
 use Rattle.table.specs.Rounds.{At, First}
 use Rattle.table.specs.Table.{MoreThan}
-use Rattle.table.specs.Keys.{keyOf, rowOf, Few, Regular}
+use Rattle.table.specs.Keys.{rowKey, rowOf, Few}
 use Rattle.table.specs.Added.{Behind, Plus, Full}
 use Rattle.table.specs.NewRows.{Earlier, NewReached, new-on-head, NewGives}
 use Rattle.table.specs.Steps.{on-head}
@@ -33,7 +34,7 @@ use Rattle.table.proofs.Regular.{goal-regular, at-regular}
 use Rattle.table.proofs.Keys.{row-of-key, key-injective}
 use Rattle.table.proofs.Added.{behind-has, behind-keeps}
 use Rattle.table.proofs.RoundKeys.{round-zero, goal-more, round-next, new-first-round, stop-keys, keyed-row, full-more}
-use Rattle.steps.specs.Steps.{RowsIn, Given, Writable, Grew, Overfull, Stepped}
+use Rattle.steps.specs.Steps.{RowsIn, Given, Writable, Grew, Overfull}
 use Rattle.steps.specs.Situation.{Setting, Situation}
 use Rattle.rounds.specs.Rounds.{InRounds, Complete}
 use Rattle.steps.proofs.Stepping.{keys-stay}
@@ -84,10 +85,10 @@ linked-keeps p table table′ heads′ kept {since} {rows} linked =
     let same = befores-keys since rows table table′ (linked .only-befores) in
     keeping-stays p table table′ kept rows (keysOf table rows) (keysOf table′ rows) (λ m l. same m) (λ key h. rw (same rows) h)
 
-pub linked-keeps-answers : (p : Program) (table table′ heads′ noted : List ℕ) {since rows : ℕ} → Linked table since rows table′ heads′
-    → KeepingAnswers p table noted rows → KeepingAnswers p table′ noted rows
-linked-keeps-answers p table table′ heads′ noted {since} {rows} linked =
-    answers-stay p table table′ noted rows
+pub linked-keeps-answers : (p : Program) (table table′ heads′ answered : List ℕ) {since rows : ℕ} → Linked table since rows table′ heads′
+    → KeepingAnswers p table answered rows → KeepingAnswers p table′ answered rows
+linked-keeps-answers p table table′ heads′ answered {since} {rows} linked =
+    answers-stay p table table′ answered rows
     (λ r h. (linked .only-befores (rowSize * r + 1) (λ x a b e. omega arith), linked .only-befores (rowSize * r + 2) (λ x a b e. omega arith)))
 
 module _ (words dir : List ℕ) (p : Program) (setting : Setting words dir p) where
@@ -98,11 +99,11 @@ module _ (words dir : List ℕ) (p : Program) (setting : Setting words dir p) wh
   module _ (k : ℕ) (ks : List ℕ) (kept : RoundKeys p k ks) where
     rows-at : Within (RowsIn p ks) (At modes p (p .ground) k)
     rows-at row (regular, m) =
-        let (row′, r, e) = kept .each (keyOf p row) .0 m in
+        let (row′, r, e) = kept .each (rowKey p row) .0 m in
         rw (key-injective p few regular (at-regular words p (setting .accepted) k row′ r) e) r
 
     at-rows : Within (At modes p (p .ground) k) (RowsIn p ks)
-    at-rows row r = (at-regular words p (setting .accepted) k row r, kept .each (keyOf p row) .1 (row, r, refl))
+    at-rows row r = (at-regular words p (setting .accepted) k row r, kept .each (rowKey p row) .1 (row, r, refl))
 
     -- what the rules give is there already, or is looked at
     given-looked : (key : ℕ) → Given p ks key → List·Memᴰ key ks ⊎ Looked p k key
@@ -172,8 +173,8 @@ module _ (words dir : List ℕ) (p : Program) (setting : Setting words dir p) wh
         at (there m e t b) = absurd (List·Memᴰ·not-nil m)
         at (full out h e t b) = absurd (omega arith)
         at (new out h e g) =
-            let one : keysOf table 1 ≡ rowKey 0 mask ∷ [] = g .keys in
-            let same : rowKey 0 mask ≡ keyOf p (call 0 (p .ground)) = ap (rowKey 0) is-mask in
+            let one : keysOf table 1 ≡ keyOf 0 mask ∷ [] = g .keys in
+            let same : keyOf 0 mask ≡ rowKey p (call 0 (p .ground)) = ap (keyOf 0) is-mask in
             rw e
             (record {
               k = 0;
@@ -187,7 +188,7 @@ module _ (words dir : List ℕ) (p : Program) (setting : Setting words dir p) wh
               earlier = λ row. (λ h. List·Memᴰ·not-nil (h .1), λ x. absurd x);
               in-rounds = λ q b.
                   let z : q ≡ 0 = omega arith in
-                  let key : keyAt table 0 ≡ keyOf p (call 0 (p .ground)) = ap (λ (x : ℕ). rowKey x (maskAt table 0)) (g .its-slot) ∙ ap (rowKey 0) (g .its-mask) ∙ same in
+                  let key : keyAt table 0 ≡ rowKey p (call 0 (p .ground)) = ap (λ (x : ℕ). keyOf x (maskAt table 0)) (g .its-slot) ∙ ap (keyOf 0) (g .its-mask) ∙ same in
                   let row : rowOf p (keyAt table 0) ≡ call 0 (p .ground) = ap (rowOf p) key ∙ row-of-key p few (goal-regular words p (setting .accepted)) in
                   rw (z, g .its-round) (row, λ j b′ _. absurd (omega arith));
             })

@@ -44,8 +44,8 @@ module _ {words dir table buckets heads table′ heads′ : List ℕ} {room sinc
   pub turn-keeps : (kept : List ℕ) → Keeps words dir table kept rows rows → Keeps words dir table′ kept rows rows
   turn-keeps kept keeps p st = linked-keeps p table table′ heads′ kept (t .linked) (keeps p st)
 
-  pub turn-keeps-answers : (noted : List ℕ) → KeepsAnswers words dir table noted rows → KeepsAnswers words dir table′ noted rows
-  turn-keeps-answers noted keeps p st = linked-keeps-answers p table table′ heads′ noted (t .linked) (keeps p st)
+  pub turn-keeps-answers : (answered : List ℕ) → KeepsAnswers words dir table answered rows → KeepsAnswers words dir table′ answered rows
+  turn-keeps-answers answered keeps p st = linked-keeps-answers p table table′ heads′ answered (t .linked) (keeps p st)
 
   -- the round that looks at them
   module _ {next : ℕ} {table″ buckets″ : List ℕ}
@@ -76,12 +76,12 @@ module _ {words dir table buckets heads table′ heads′ : List ℕ} {room sinc
         pub turn-less : (p : Program) → Setting words dir p → room - next < room - rows
         turn-less p st = let l : rows < next = strictly rows next (turn-grew p st .more) differ in omega arith
 
-        pub turn-again : (kept noted : List ℕ) → Keeps words dir table″ kept rows next → KeepsAnswers words dir table″ noted rows
+        pub turn-again : (kept answered : List ℕ) → Keeps words dir table″ kept rows next → KeepsAnswers words dir table″ answered rows
             → ((p : Program) → Setting words dir p → Rounding p table″ buckets″ heads′ room rows next (number + 1))
-            × Keeps words dir table″ kept next next × KeepsAnswers words dir table″ noted next
-        turn-again kept noted keeps answers = (
+            × Keeps words dir table″ kept next next × KeepsAnswers words dir table″ answered next
+        turn-again kept answered keeps answers = (
           λ p st.
               rounds-next words dir p st table buckets heads room since rows number (t .each p st) table′ heads′ (t .linked) (t .same-length) (t .same-heads) next table″ buckets″ (turn-grew p st) differ,
           λ p st. keeping-later p table″ kept rows next (turn-grew p st .more) (keeps p st),
-          λ p st. answers-later p table″ noted rows next (turn-grew p st .more) (answers p st),
+          λ p st. answers-later p table″ answered rows next (turn-grew p st .more) (answers p st),
         )

@@ -7,7 +7,8 @@ use lib.ListN.{length, replicate}
 use Rattle.terms.specs.Mask.{Has}
 use Rattle.marks.specs.Modes.{modes}
 use Rattle.program.specs.Program.{Program}
-use Rattle.rows.specs.Rows.{rowSize, slots, buckets as bucketCount, maxRows, roundAt, keyAt, keysOf}
+use Rattle.program.specs.Limits.{rowSize, maxRows}
+use Rattle.rows.specs.Rows.{slots, buckets as bucketCount, roundAt, keyAt, keysOf}
 use Rattle.table.specs.Rules.{Row}
 use Rattle.table.specs.NewRows.{New}
 use Rattle.table.specs.Rounds.{At, First}
@@ -23,7 +24,7 @@ use Rattle.joining.specs.KeptAnswers.{answerWords}
 use Rattle.ends.specs.Keeping.{keptWords}
 
 -- "Round 0 has one row, the goal's call": nothing is there before it
-pub record RoundsAsked (words dir table buckets heads unifiers answers found kept noted : List ℕ) (room : ℕ) : Type 0 where
+pub record RoundsAsked (words dir table buckets heads unifiers answers found kept answered : List ℕ) (room : ℕ) : Type 0 where
   pub p : Program
   pub setting : Setting words dir p
   pub no-buckets : buckets ≡ replicate bucketCount 0
@@ -31,7 +32,7 @@ pub record RoundsAsked (words dir table buckets heads unifiers answers found kep
   pub room-for-notes : Room unifiers
   pub scratch : Scratch answers found
   pub none-kept : kept ≡ replicate keptWords 0
-  pub none-noted : noted ≡ replicate answerWords 0
+  pub none-answered : answered ≡ replicate answerWords 0
   pub room-most : room ≤ maxRows
   pub room-there : rowSize * room ≤ length table
 

@@ -1,8 +1,8 @@
 // The rounds: each looks at the combinations with a row of the last one, clause by clause, and only at clauses that a new row concerns.
 use clauses::clauses::clause;
 use concerns::active::active;
-use concerns::index::note_bodies;
-use concerns::index::note_heads;
+use concerns::index::enter_bodies;
+use concerns::index::enter_heads;
 use directory::layout::CLAUSE_COUNT;
 use directory::layout::GOAL_GROUND;
 use rows::chain::link;
@@ -35,7 +35,7 @@ fn look<'a>(
     answers: &mut [u16],
     found: &mut [u16],
     kept: &mut [u16],
-    noted: &mut [u16],
+    answered: &mut [u16],
     n: usize,
     at: Round,
     k: usize,
@@ -43,13 +43,13 @@ fn look<'a>(
 ) -> usize
     requires { ⌜ LookAsked (now words) (now dir) (now table) (now heads) (at .since) (at .rows) k concerns × Writable (now table) (now buckets) n (at .room) × (at .rows ≤ n)
         × Scratch (now answers) (now found) × Keeps (now words) (now dir) (now table) (now kept) (at .rows) n
-        × KeepsAnswers (now words) (now dir) (now table) (now noted) (at .rows) × Room (now unifiers) ⌝ }
+        × KeepsAnswers (now words) (now dir) (now table) (now answered) (at .rows) × Room (now unifiers) ⌝ }
     ensures { λ r. ⌜ Scratch (now (answers .exit)) (now (found .exit))
         × ((w : HeadAsked (now (words .entry)) (now (dir .entry)) (now (table .entry)) (now (heads .entry)) (at .since) (at .rows) k)
         → Stepped (w .situation .p) (keysOf (now (table .entry)) (at .rows)) (at .number) (at .room) n (now (table .entry)) (now (buckets .entry))
         (Keyed (w .situation .p) (NewIn modes (w .situation .p) (RowsIn (w .situation .p) (keysOf (now (table .entry)) (at .since))) (RowsIn (w .situation .p) (keysOf (now (table .entry)) (at .rows))) k)) r (now (table .exit)) (now (buckets .exit)))
         × (r ≤ at .room → Keeps (now (words .entry)) (now (dir .entry)) (now (table .exit)) (now (kept .exit)) (at .rows) r)
-        × (r ≤ at .room → KeepsAnswers (now (words .entry)) (now (dir .entry)) (now (table .exit)) (now (noted .exit)) (at .rows)) ⌝ }
+        × (r ≤ at .room → KeepsAnswers (now (words .entry)) (now (dir .entry)) (now (table .exit)) (now (answered .exit)) (at .rows)) ⌝ }
 {
     if (concerns >> k) % 2 == 1 {
         return clause(
@@ -62,7 +62,7 @@ fn look<'a>(
             answers,
             found,
             kept,
-            noted,
+            answered,
             n,
             at,
             k,
@@ -82,20 +82,20 @@ fn round<'a>(
     answers: &mut [u16],
     found: &mut [u16],
     kept: &mut [u16],
-    noted: &mut [u16],
+    answered: &mut [u16],
     headed: &[u64],
     bodied: &[u64],
     at: Round,
 ) -> usize
     requires { ⌜ RoundAsked (now words) (now dir) (now table) (now heads) (now headed) (now bodied) (at .since) (at .rows) × Writable (now table) (now buckets) (at .rows) (at .room)
         × Scratch (now answers) (now found) × Keeps (now words) (now dir) (now table) (now kept) (at .rows) (at .rows)
-        × KeepsAnswers (now words) (now dir) (now table) (now noted) (at .rows) × Room (now unifiers) ⌝ }
+        × KeepsAnswers (now words) (now dir) (now table) (now answered) (at .rows) × Room (now unifiers) ⌝ }
     ensures { λ r. ⌜ Scratch (now (answers .exit)) (now (found .exit))
         × ((w : Situation (now (words .entry)) (now (dir .entry)) (now (table .entry)) (now (heads .entry)) (at .since) (at .rows))
         → Stepped (w .p) (keysOf (now (table .entry)) (at .rows)) (at .number) (at .room) (at .rows) (now (table .entry)) (now (buckets .entry))
         (Keyed (w .p) (NewGives modes (w .p) (RowsIn (w .p) (keysOf (now (table .entry)) (at .since))) (RowsIn (w .p) (keysOf (now (table .entry)) (at .rows))))) r (now (table .exit)) (now (buckets .exit)))
         × (r ≤ at .room → Keeps (now (words .entry)) (now (dir .entry)) (now (table .exit)) (now (kept .exit)) (at .rows) r)
-        × (r ≤ at .room → KeepsAnswers (now (words .entry)) (now (dir .entry)) (now (table .exit)) (now (noted .exit)) (at .rows)) ⌝ }
+        × (r ≤ at .room → KeepsAnswers (now (words .entry)) (now (dir .entry)) (now (table .exit)) (now (answered .exit)) (at .rows)) ⌝ }
 {
     let room = at.room;
     let clauses = wide(dir[CLAUSE_COUNT]);
@@ -113,7 +113,7 @@ fn round<'a>(
             answers,
             found,
             kept,
-            noted,
+            answered,
             rows,
             at,
             k,
@@ -138,16 +138,16 @@ pub fn rounds<'a>(
     answers: &mut [u16],
     found: &mut [u16],
     kept: &mut [u16],
-    noted: &mut [u16],
+    answered: &mut [u16],
     room: usize,
 ) -> usize
-    requires { ⌜ RoundsAsked (now words) (now dir) (now table) (now buckets) (now heads) (now unifiers) (now answers) (now found) (now kept) (now noted) room ⌝ }
+    requires { ⌜ RoundsAsked (now words) (now dir) (now table) (now buckets) (now heads) (now unifiers) (now answers) (now found) (now kept) (now answered) room ⌝ }
     ensures { λ r. ⌜ ((p : Program) → Setting (now (words .entry)) (now (dir .entry)) p → Finished p room r (now (table .exit))) ⌝ }
 {
     let mut headed = [0u64; 64];
     let mut bodied = [0u64; 64];
-    note_heads(words, dir, &mut headed);
-    note_bodies(words, dir, &mut bodied);
+    enter_heads(words, dir, &mut headed);
+    enter_bodies(words, dir, &mut bodied);
     let mut rows = add(table, buckets, 0, room, 0, 0, dir[GOAL_GROUND]);
     if room < rows {
         return rows;
@@ -172,7 +172,7 @@ pub fn rounds<'a>(
             answers,
             found,
             kept,
-            noted,
+            answered,
             &headed,
             &bodied,
             at,

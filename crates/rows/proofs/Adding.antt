@@ -1,12 +1,13 @@
 -- A row is written behind the others: what its words are, that the others stay, and that the store holds with its key added.
-use Prim.Native.Nat.{ℕ, zero, suc, _+_, _*_, _≤_, _<_}
+use Prim.Native.Nat.{ℕ, _+_, _*_, _≤_, _<_}
 use native.Mathlib.Omega.{arith}
-use native.Mathlib.Decide.{decLt, ℕ-discrete}
-use mathlib.Core.Path.{_≡_, refl, sym, ap, _∙_}
+use native.Mathlib.Decide.{ℕ-discrete}
+use mathlib.Core.Path.{_≡_, sym, ap, _∙_}
 use mathlib.Core.List.{List, [], _∷_, _++_, List·Memᴰ}
 use lib.ListN.{length, getD, set, length-set, replicate, length-replicate}
 use lib.Seq.{getD-set-same, getD-set-other}
-use Rattle.rows.specs.Rows.{rowSize, slots, masks, buckets, maxRows, roundAt, slotAt, maskAt, nextAt, keyOf, keyAt, keysOf, bucketOf, bucketAt}
+use Rattle.program.specs.Limits.{rowSize, masks, maxRows}
+use Rattle.rows.specs.Rows.{slots, buckets, roundAt, slotAt, maskAt, nextAt, keyOf, keyAt, keysOf, bucketOf, bucketAt}
 use Rattle.rows.specs.Store.{Store, SameRows, withRow, Grown}
 use Rattle.rows.proofs.Keys.{bucket-below, same-keys, keys-more, key-listed}
 use Rattle.rows.proofs.Chaining.{chained-none, chained-more}

@@ -10,7 +10,7 @@ use lib.Seq.{ext-getD, getD-append-add, getD-drop}
 use lib.Pow.{pow-mono}
 use Rattle.terms.specs.Mask.{Has}
 use Rattle.terms.proofs.Masks.{has-none, has-below, same-marks}
-use Rattle.rows.specs.Rows.{masks}
+use Rattle.program.specs.Limits.{masks}
 use Rattle.rows.specs.MaskSet.{setWords, InSet}
 
 -- how many words the marks of so many variables take

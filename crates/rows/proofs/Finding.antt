@@ -1,11 +1,12 @@
 -- A key is looked for along the chain of its bucket: the rows passed do not have it, and at the chain's end no row has it.
-use Prim.Native.Nat.{ℕ, zero, suc, _+_, _*_, _-_, _≤_, _<_}
+use Prim.Native.Nat.{ℕ, _+_, _*_, _-_, _<_}
 use native.Mathlib.Omega.{arith}
-use mathlib.Core.Path.{_≡_, refl, sym, ap, _∙_}
+use mathlib.Core.Path.{_≡_, refl}
 use mathlib.Core.List.{List, List·Memᴰ}
 use lib.ListN.{length, getD}
-use Rattle.rows.specs.Rows.{rowSize, masks, slotAt, maskAt, nextAt, keyOf, keyAt, keysOf, bucketOf, bucketAt}
-use Rattle.rows.specs.Chains.{Latest, Walked}
+use Rattle.program.specs.Limits.{rowSize, masks}
+use Rattle.rows.specs.Rows.{slotAt, maskAt, nextAt, keyOf, keyAt, keysOf, bucketOf, bucketAt}
+use Rattle.rows.specs.Chains.{Walked}
 use Rattle.rows.specs.Store.{Store}
 use Rattle.rows.proofs.Keys.{key-slot, key-mask, bucket-below, keys-by-row, listed-key}
 use Rattle.rows.proofs.Chaining.{walk-ends, chain-begins, chain-row-below, chain-goes-on, chain-falls}

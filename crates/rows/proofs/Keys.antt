@@ -1,13 +1,14 @@
 -- Keys of rows: a key says its slot and its mask, and the keys of the first rows are found by index.
-use Prim.Native.Nat.{ℕ, zero, suc, _+_, _*_, _/_, _%_, _≤_, _<_}
+use Prim.Native.Nat.{ℕ, zero, suc, _+_, _<_}
 use native.Mathlib.Omega.{arith}
 use native.Mathlib.Numerals.{add-one}
 use native.Mathlib.Decide.{decLt}
-use mathlib.Core.Path.{_≡_, refl, sym, ap, _∙_}
+use mathlib.Core.Path.{_≡_, refl, sym, ap}
 use mathlib.Core.List.{List, [], _∷_, _++_, List·Memᴰ, List·Memᴰ·head, List·Memᴰ·not-nil, List·Memᴰ·append-cases, List·Memᴰ·eq-of-singleton, Memᴰ·append-left, Memᴰ·append-right}
 use mathlib.Core.Logic.{_↔_, ⊎-elim}
 use lib.ListN.{length, length-append}
-use Rattle.rows.specs.Rows.{slots, masks, buckets, slotAt, maskAt, keyOf, keyAt, keysOf, bucketOf, bucketAt}
+use Rattle.program.specs.Limits.{masks}
+use Rattle.rows.specs.Rows.{buckets, keyOf, keyAt, keysOf, bucketOf}
 
 -- a key says its slot and its mask
 pub key-slot : (s m s′ m′ : ℕ) → m < masks → m′ < masks → keyOf s m ≡ keyOf s′ m′ → s ≡ s′

@@ -1,12 +1,12 @@
 -- Rows are linked by slot: one row more in the chains, and what stays where only `before` words change.
-use Prim.Native.Nat.{ℕ, suc, _+_, _*_, _≤_, _<_}
+use Prim.Native.Nat.{ℕ, _+_, _*_, _≤_, _<_}
 use native.Mathlib.Omega.{arith}
-use mathlib.Core.Path.{_≡_, refl, sym, ap, _∙_}
+use mathlib.Core.Path.{_≡_, refl, sym, _∙_}
 use mathlib.Core.List.{List}
-use lib.ListN.{length, getD, set, length-set, replicate}
+use lib.ListN.{length, getD, set, replicate}
 use lib.Seq.{getD-set-same, getD-set-other}
-use Rattle.rows.specs.Rows.{rowSize, slots, maxRows, roundAt, slotAt, maskAt, beforeAt, nextAt, keyAt, keysOf, bucketAt}
-use Rattle.rows.specs.Chains.{Chained}
+use Rattle.program.specs.Limits.{rowSize}
+use Rattle.rows.specs.Rows.{slots, roundAt, slotAt, maskAt, beforeAt, nextAt, keyAt, keysOf, bucketAt}
 use Rattle.rows.specs.Store.{Store, SameRows}
 use Rattle.rows.specs.Linked.{OnlyBefores, BySlot, Linked}
 use Rattle.rows.proofs.Keys.{same-keys}
@@ -29,12 +29,6 @@ module _ (from to : ℕ) (table table′ : List ℕ) (only : OnlyBefores from to
 
   pub befores-next : (r : ℕ) → nextAt table′ r ≡ nextAt table r
   befores-next r = only (rowSize * r + 4) (λ q a b e. omega arith)
-
-  pub befores-before : (r : ℕ) → r < from → beforeAt table′ r ≡ beforeAt table r
-  befores-before r h = only (rowSize * r + 3) (λ q a b e. omega arith)
-
-  pub befores-behind : (i : ℕ) → rowSize * to ≤ i → getD table′ i 0 ≡ getD table i 0
-  befores-behind i h = only i (λ q a b e. omega arith)
 
   pub befores-key : (r : ℕ) → keyAt table′ r ≡ keyAt table r
   befores-key r = rw (befores-slot r, befores-mask r)

@@ -3,7 +3,8 @@ use Prim.Native.Nat.{ℕ, _+_, _*_, _≤_, _<_}
 use mathlib.Core.Path.{_≡_}
 use mathlib.Core.List.{List}
 use lib.ListN.{getD}
-use Rattle.rows.specs.Rows.{rowSize, slotAt, beforeAt}
+use Rattle.program.specs.Limits.{rowSize}
+use Rattle.rows.specs.Rows.{slotAt, beforeAt}
 use Rattle.rows.specs.Chains.{Chained}
 
 -- every word but the `before` of the rows from..to is as it was

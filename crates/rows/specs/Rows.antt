@@ -1,27 +1,17 @@
 -- The rows of a table in lent words: where the words of a row stand, and a row's key.
-use Prim.Native.Nat.{ℕ, zero, suc, _+_, _*_, _/_, _%_, _<_}
-use mathlib.Core.Path.{_≡_}
+use Prim.Native.Nat.{ℕ, zero, suc, _+_, _*_, _/_, _%_}
 use mathlib.Core.List.{List, [], _∷_, _++_}
 use lib.ListN.{getD}
-
--- a row is five words: round, slot, mask, `before` and `next`
-abbrev pub rowSize : ℕ
-rowSize = 5
+use Rattle.program.specs.Limits.{rowSize, masks, maxShapes}
 
 -- a slot stands for what rows are about: a kind with a shape, or a clause and place
 abbrev pub slots : ℕ
-slots = 3075
-
-abbrev pub masks : ℕ
-masks = 65536
+slots = 3 * maxShapes
 
 abbrev pub buckets : ℕ
 buckets = 2048
 
--- "at most 4,096"
-abbrev pub maxRows : ℕ
-maxRows = 4096
-
+-- the words of a row while the rounds run: round, slot, mask, `before` and `next`
 abbrev pub roundAt : List ℕ → ℕ → ℕ
 roundAt table r = getD table (rowSize * r) 0
 
@@ -51,7 +41,7 @@ abbrev pub keysOf : List ℕ → ℕ → List ℕ
 keysOf table zero = []
 keysOf table (suc n) = keysOf table n ++ (keyAt table n ∷ [])
 
--- the bucket that a key is looked for in: twelve bits of a product that spreads the keys
+-- the bucket that a key is looked for in: eleven bits of a product that spreads the keys
 unfoldable pub bucketOf : ℕ → ℕ → ℕ
 bucketOf slot mask = keyOf slot mask * 2654435769 / 1048576 % buckets
 

@@ -3,7 +3,8 @@ use Prim.Native.Nat.{ℕ, _+_, _*_, _≤_, _<_}
 use mathlib.Core.Path.{_≡_}
 use mathlib.Core.List.{List, [], _∷_, _++_, List·Memᴰ}
 use lib.ListN.{length, getD, set}
-use Rattle.rows.specs.Rows.{rowSize, slots, masks, buckets, maxRows, roundAt, slotAt, maskAt, nextAt, keyOf, keyAt, keysOf, bucketAt}
+use Rattle.program.specs.Limits.{rowSize, masks, maxRows}
+use Rattle.rows.specs.Rows.{slots, buckets, roundAt, slotAt, maskAt, nextAt, keyOf, keyAt, keysOf, bucketAt}
 use Rattle.rows.specs.Chains.{Chained}
 
 pub record Store (table heads : List ℕ) (n : ℕ) : Type 0 where

@@ -2,7 +2,8 @@
 ghost use mathlib.Core.Path.{_≡_};
 ghost use Prim.Native.Nat.{ℕ, _*_, _≤_, _<_};
 ghost use lib.ListN.{length};
-ghost use Rattle.rows.specs.Rows.{rowSize, slots, maxRows, slotAt};
+ghost use Rattle.program.specs.Limits.{rowSize, maxRows};
+ghost use Rattle.rows.specs.Rows.{slots, slotAt};
 ghost use Rattle.rows.specs.Linked.{BySlot, Linked};
 use crate::row::ROW_SIZE;
 use crate::row::slot_at;

@@ -1,10 +1,11 @@
 // The words of a row: row r stands at words 5r to 5r + 4.
 ghost use mathlib.Core.Path.{_≡_};
 ghost use mathlib.Core.Logic.{_↔_};
-ghost use Prim.Native.Nat.{_+_, _*_, _≤_, _<_};
+ghost use Prim.Native.Nat.{_+_, _*_, _<_};
 ghost use lib.ListN.{length};
 ghost use lib.Dec.{T};
-ghost use Rattle.rows.specs.Rows.{rowSize, slots, masks, buckets, roundAt, slotAt, maskAt, beforeAt, nextAt, bucketOf};
+ghost use Rattle.program.specs.Limits.{rowSize, masks};
+ghost use Rattle.rows.specs.Rows.{slots, buckets, roundAt, slotAt, maskAt, beforeAt, nextAt, bucketOf};
 ghost use Rattle.rows.specs.Store.{withRow};
 use terms::walk::wide;
 

@@ -9,9 +9,10 @@ use Rattle.program.specs.Program.{Program}
 use Rattle.program.specs.Faults.{faults, sound}
 use Rattle.program.specs.Reply.{accepted, done}
 use Rattle.program.specs.declared.reply.Reply.{Reply}
+use Rattle.program.specs.Limits.{rowSize}
 use Rattle.table.specs.Rules.{Row, call, cont, solution}
 use Rattle.table.specs.Rounds.{Least}
-use Rattle.table.specs.Table.{Entry, rowSize, rowWords, tableWords, TableOf, Promise}
+use Rattle.table.specs.Table.{Entry, rowWords, tableWords, TableOf, Promise}
 use Rattle.table.proofs.RoundLaws.{least-appears}
 use Rattle.table.proofs.Promise.{row-words-same, appears-first, accepted-table}
 use Rattle.runs.specs.TableRows.{StandsIn, Trusted}

@@ -10,11 +10,11 @@ use lib.ListN.{length, getD, set, length-set, length-append}
 use lib.Seq.{getD-set-same, getD-set-other}
 use Rattle.terms.specs.Term.{Term, Occ}
 use Rattle.terms.specs.Cells.{variables, Atom}
-use Rattle.program.specs.Limits.{maxDeclared}
+use Rattle.program.specs.Limits.{maxDeclared, maxShapes}
 use Rattle.program.specs.Program.{Nth}
 use Rattle.program.proofs.ShapeLaws.{nth-same}
 use Rattle.program.proofs.Nths.{nth-below, nth-last}
-use Rattle.directory.specs.Layout.{shapeStart, shapeVars, shapeNext, predicateShape, shapeCells, maxShapes, maxShapeCells}
+use Rattle.directory.specs.Layout.{shapeStart, shapeVars, shapeNext, predicateShape, shapeCells, maxShapeCells}
 use Rattle.directory.specs.Directory.{Stands-at, predicateOf, Link, ShapeAt}
 use Rattle.shaping.specs.Shaped.{Shaped, Slot, Seeking, addedTo}
 use Rattle.directory.proofs.Parts.{parts-same}

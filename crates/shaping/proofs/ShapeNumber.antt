@@ -12,12 +12,12 @@ use borrow.Author.Tests.{ltb-false}
 use Rattle.terms.specs.Term.{Term, sameTerm, Occ}
 use Rattle.terms.specs.Cells.{firstVariable, variables, enc, encs}
 use Rattle.terms.specs.Walk.{InRun, Cells}
-use Rattle.program.specs.Limits.{maxDeclared}
+use Rattle.program.specs.Limits.{maxDeclared, maxShapes}
 use Rattle.program.specs.Shapes.{place, met, number, shapeOf}
 use Rattle.program.proofs.ShapeLaws.{place-nth, met-has}
 use Rattle.program.proofs.OwnShape.{with-old, with-new}
 use Rattle.program.proofs.Nths.{nth-below}
-use Rattle.directory.specs.Layout.{shapeStart, shapeNext, predicateShape, shapeCells, dirWords, maxShapes}
+use Rattle.directory.specs.Layout.{shapeStart, shapeNext, predicateShape, shapeCells, dirWords}
 use Rattle.directory.specs.Directory.{Stands-at}
 use Rattle.directory.specs.Numbers.{metCells, Known, Numbered, renamed, numberIn, In-table, Renumbered}
 use Rattle.shaping.specs.Shaped.{Shaped, Sought, FoundAs, addedTo, Asked, Answered}

@@ -9,12 +9,12 @@ use lib.ListN.{length, getD, take, drop}
 use Rattle.terms.specs.Term.{Term, Terms, sameTerm, app}
 use Rattle.terms.specs.Cells.{enc, encs, Keepss, Atom, termsOf}
 use Rattle.terms.proofs.Runs.{terms-encs, join-nil}
-use Rattle.program.specs.Limits.{maxDeclared}
+use Rattle.program.specs.Limits.{maxDeclared, maxShapes}
 use Rattle.program.specs.Program.{Nth, here, there}
 use Rattle.program.specs.Shapes.{place}
 use Rattle.program.proofs.ShapeLaws.{nth-same}
 use Rattle.program.proofs.Nths.{nth-below}
-use Rattle.directory.specs.Layout.{shapeStart, shapeNext, predicateShape, shapeCells, maxShapes, maxShapeCells}
+use Rattle.directory.specs.Layout.{shapeStart, shapeNext, predicateShape, shapeCells, maxShapeCells}
 use Rattle.directory.specs.Directory.{Stands-at, predicateOf, ShapeAt}
 use Rattle.shaping.specs.Shaped.{Sought, Slot, Seeking, FoundAs}
 use Rattle.shaping.specs.declared.shapes.Found.the-variants.{At, New}

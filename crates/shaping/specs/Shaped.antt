@@ -6,10 +6,10 @@ use mathlib.Core.List.{List, List·Memᴰ}
 use lib.ListN.{length, getD, set}
 use Rattle.terms.specs.Term.{Term, sameTerm}
 use Rattle.terms.specs.Cells.{Atom}
-use Rattle.program.specs.Limits.{maxDeclared}
+use Rattle.program.specs.Limits.{maxDeclared, maxShapes}
 use Rattle.program.specs.Program.{Nth}
 use Rattle.program.specs.Shapes.{place, with, shapeOf}
-use Rattle.directory.specs.Layout.{shapeStart, shapeVars, shapeNext, predicateShape, dirWords, maxShapes, maxShapeCells}
+use Rattle.directory.specs.Layout.{shapeStart, shapeVars, shapeNext, predicateShape, dirWords, maxShapeCells}
 use Rattle.directory.specs.Directory.{Stands-at, predicateOf, Link, ShapeAt}
 use Rattle.shaping.specs.declared.shapes.Found.{Found}
 use Rattle.shaping.specs.declared.shapes.Found.the-variants.{At, New}

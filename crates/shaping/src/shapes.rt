@@ -10,11 +10,12 @@ use terms::walk::narrow;
 use terms::walk::wide;
 ghost use mathlib.Core.Path.{_≡_};
 ghost use mathlib.Core.Logic.{_↔_};
-ghost use Prim.Native.Nat.{ℕ, _+_, _≤_, _<_};
+ghost use Prim.Native.Nat.{_+_, _≤_, _<_};
 ghost use lib.ListN.{length, take, drop};
 ghost use lib.Dec.{T};
 ghost use Rattle.terms.specs.Cells.{variables};
-ghost use Rattle.directory.specs.Layout.{dirWords, maxShapes, maxShapeCells};
+ghost use Rattle.program.specs.Limits.{maxShapes};
+ghost use Rattle.directory.specs.Layout.{dirWords, maxShapeCells};
 ghost use Rattle.shaping.specs.Shaped.{Sought, FoundAs, addedTo, Asked, Answered};
 
 // The number of a shape; or, where it is new, the entry for the link to it.

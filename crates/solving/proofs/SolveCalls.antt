@@ -12,7 +12,8 @@ use Rattle.terms.specs.Mask.{Has}
 use Rattle.terms.specs.Term.{Occ}
 use Rattle.marks.specs.Modes.{Together}
 use Rattle.marks.proofs.Passing.{pass-unique}
-use Rattle.rows.specs.Rows.{rowSize, slots, slotAt, maskAt, beforeAt, keysOf, keyOf as rowKey}
+use Rattle.program.specs.Limits.{rowSize}
+use Rattle.rows.specs.Rows.{slots, slotAt, maskAt, beforeAt, keysOf, keyOf}
 use Rattle.rows.specs.MaskSet.{InSet, Inserted}
 use Rattle.rows.specs.Store.{Added}
 use Rattle.rows.specs.Chains.{Walked}
@@ -20,7 +21,7 @@ use Rattle.rows.proofs.Adding.{same-mask}
 use Rattle.rows.proofs.MaskSets.{was-there}
 use Rattle.rows.proofs.Chaining.{chain-begins, chain-row-below, chain-row-class, chain-goes-on, chain-falls, walked-same}
 use Rattle.table.specs.Rules.{Row, call, solution}
-use Rattle.table.specs.Keys.{keyOf}
+use Rattle.table.specs.Keys.{rowKey}
 use Rattle.table.specs.RoundKeys.{Keyed}
 use Rattle.table.proofs.Added.{behind-keeps}
 use Rattle.steps.specs.Steps.{RowsIn, Given, Writable, Grew, Stepped}
@@ -34,7 +35,7 @@ use Rattle.solving.proofs.SolveLaws.{late-row, to-shape-below, call-the
 pub record SolvedRow (table₀ : List ℕ) (slot mask : ℕ) (table : List ℕ) (rows r : ℕ) : Type 0 where
   pub R : ℕ
   pub together : Together (maskAt table₀ r) mask R
-  pub there : List·Memᴰ (rowKey slot R) (keysOf table rows)
+  pub there : List·Memᴰ (keyOf slot R) (keysOf table rows)
 
 -- the walk has come to the link: rows were added behind the first n, those of the masks in the set are there, and what was put in is of the shape's variables
 pub record Going {table₀ solved₀ : List ℕ} {since old newest slot mask n : ℕ} (a : CallsAsked table₀ solved₀ since old newest slot mask n) (round room : ℕ) (buckets₀ : List ℕ)
@@ -47,7 +48,7 @@ pub record Going {table₀ solved₀ : List ℕ} {since old newest slot mask n :
 pub record Turned {table₀ solved₀ : List ℕ} {since old newest slot mask n : ℕ} (a : CallsAsked table₀ solved₀ since old newest slot mask n) (round room : ℕ) (buckets₀ : List ℕ)
     (rows : ℕ) (table : List ℕ) (R r : ℕ) (table′ buckets′ solved′ : List ℕ) : Type 0 where
   pub grew : Grew (a .to .p) (keysOf table₀ old) round room n table₀ buckets₀ (SetKeys (a .to .S) slot solved′) r table′ buckets′
-  pub there : List·Memᴰ (rowKey slot R) (keysOf table′ r)
+  pub there : List·Memᴰ (keyOf slot R) (keysOf table′ r)
   pub keeps : (key : ℕ) → List·Memᴰ key (keysOf table rows) → List·Memᴰ key (keysOf table′ r)
 
 module _ {table₀ solved₀ : List ℕ} {since old newest slot mask n : ℕ} (a : CallsAsked table₀ solved₀ since old newest slot mask n) (round room : ℕ) (buckets₀ : List ℕ) (behind : old ≤ n) where
@@ -101,8 +102,8 @@ module _ {table₀ solved₀ : List ℕ} {since old newest slot mask n : ℕ} (a
         put-more N h = ⊎-elim (g .put N) (λ e. inr (subst (λ (M : ℕ). (v : ℕ) → Has M v → Occ v (w .S)) (sym e) of-shape)) (ins .members N .0 h)
 
         -- the set has the masks that it had, and R
-        set-keys : (key : ℕ) → SetKeys (w .S) slot solved′ key → SetKeys (w .S) slot solved key ⊎ (key ≡ rowKey slot R)
-        set-keys key (N, of, in-set, e) = ⊎-elim (λ o. inl (N, of, o, e)) (λ d. inr (e ∙ ap (λ (M : ℕ). rowKey slot M) d)) (ins .members N .0 in-set)
+        set-keys : (key : ℕ) → SetKeys (w .S) slot solved′ key → SetKeys (w .S) slot solved key ⊎ (key ≡ keyOf slot R)
+        set-keys key (N, of, in-set, e) = ⊎-elim (λ o. inl (N, of, o, e)) (λ d. inr (e ∙ ap (λ (M : ℕ). keyOf slot M) d)) (ins .members N .0 in-set)
 
         -- the mask was in the set
         pub turned-there : (T new → ⊥) → Turned a round room buckets₀ rows table R rows table buckets solved′
@@ -111,7 +112,7 @@ module _ {table₀ solved₀ : List ℕ} {since old newest slot mask n : ℕ} (a
               grew =
                   grew-must (w .p) ks round room n rows table₀ buckets₀ table buckets (SetKeys (w .S) slot solved) (SetKeys (w .S) slot solved′)
                   (λ key k. ⊎-elim (λ o. o) (λ e. (R, of-shape, was-in, e)) (set-keys key k)) (g .grew);
-              there = g .grew .all (rowKey slot R) (R, of-shape, was-in, refl);
+              there = g .grew .all (keyOf slot R) (R, of-shape, was-in, refl);
               keeps = λ key m. m;
             }
           where
@@ -119,18 +120,18 @@ module _ {table₀ solved₀ : List ℕ} {since old newest slot mask n : ℕ} (a
             was-in = was-there solved solved′ R new ins old-one
 
         module _ (r : ℕ) (table′ buckets′ : List ℕ) (added : Added table buckets rows room round slot R r table′ buckets′) (l : length table′ ≡ length table) where
-          given : Given (w .p) ks (rowKey slot R)
+          given : Given (w .p) ks (keyOf slot R)
           given = solution-given w mask (a .q) (a .passes) (maskAt table₀ (link - 1)) R its-call here
 
-          one : Stepped (w .p) ks round room rows table buckets (λ key. key ≡ rowKey slot R) r table′ buckets′
+          one : Stepped (w .p) ks round room rows table buckets (λ key. key ≡ keyOf slot R) r table′ buckets′
           one = added-stepped (w .p) ks round room rows slot R r table buckets table′ buckets′ (g .grew .writable) given added l
 
           abbrev Both : ℕ → Type 0
-          Both key = SetKeys (w .S) slot solved key ⊎ (key ≡ rowKey slot R)
+          Both key = SetKeys (w .S) slot solved key ⊎ (key ≡ keyOf slot R)
 
           both : Stepped (w .p) ks round room n table₀ buckets₀ Both r table′ buckets′
           both =
-              stepped-then (w .p) ks round room n rows r table₀ buckets₀ table buckets table′ buckets′ (SetKeys (w .S) slot solved) (λ key. key ≡ rowKey slot R) (g .grew) one
+              stepped-then (w .p) ks round room n rows r table₀ buckets₀ table buckets table′ buckets′ (SetKeys (w .S) slot solved) (λ key. key ≡ keyOf slot R) (g .grew) one
 
           -- no room for the row
           pub going-full : {Must : ℕ → Type 0} → room < r → Stepped (w .p) ks round room n table₀ buckets₀ Must r table′ buckets′
@@ -142,19 +143,19 @@ module _ {table₀ solved₀ : List ℕ} {since old newest slot mask n : ℕ} (a
               record {
                 grew = grew-must (w .p) ks round room n r table₀ buckets₀ table′ buckets′ Both (SetKeys (w .S) slot solved′) set-keys
                     (stepped-within (w .p) ks round room n r table₀ buckets₀ table′ buckets′ Both both within);
-                there = step .all (rowKey slot R) refl;
+                there = step .all (keyOf slot R) refl;
                 keeps = behind-keeps (keysOf table rows) (Given (w .p) ks) (keysOf table′ r) (step .behind);
               }
             where
-              step : Grew (w .p) ks round room rows table buckets (λ key. key ≡ rowKey slot R) r table′ buckets′
-              step = stepped-within (w .p) ks round room rows r table buckets table′ buckets′ (λ key. key ≡ rowKey slot R) one within
+              step : Grew (w .p) ks round room rows table buckets (λ key. key ≡ keyOf slot R) r table′ buckets′
+              step = stepped-within (w .p) ks round room rows r table buckets table′ buckets′ (λ key. key ≡ keyOf slot R) one within
 
         module _ (r : ℕ) (table′ buckets′ : List ℕ) (t : Turned a round room buckets₀ rows table R r table′ buckets′ solved′) where
           pub turned-read : rowSize * (link - 1) + 4 < length table′
           turned-read = omega (arith, going-row, w .chains .fits, t .grew .same-length)
 
           still : (x : ℕ) → SolvedRow table₀ slot mask table rows x → SolvedRow table₀ slot mask table′ r x
-          still x d = record { R = d .R; together = d .together; there = t .keeps (rowKey slot (d .R)) (d .there) }
+          still x d = record { R = d .R; together = d .together; there = t .keeps (keyOf slot (d .R)) (d .there) }
 
           before-same : beforeAt table′ (link - 1) ≡ beforeAt table₀ (link - 1)
           before-same = t .grew .same-rows (rowSize * (link - 1) + 3) (omega (arith, going-row))
@@ -185,13 +186,13 @@ module _ {table₀ solved₀ : List ℕ} {since old newest slot mask n : ℕ} (a
           same-length = g .grew .same-length;
           rounds = g .grew .rounds;
           behind = g .grew .behind;
-          all = λ key. ⊎-elim (λ (row, by, e). Memᴰ·cast (e ∙ ap (keyOf (w .p)) (by .is)) (of by)) (g .grew .all key);
+          all = λ key. ⊎-elim (λ (row, by, e). Memᴰ·cast (e ∙ ap (rowKey (w .p)) (by .is)) (of by)) (g .grew .all key);
         })
       where
-        of : {row : Row ℕ} (by : SolvedBy w from (a .q) row) → List·Memᴰ (keyOf (w .p) (solution (w .s) (by .R))) (keysOf table rows)
+        of : {row : Row ℕ} (by : SolvedBy w from (a .q) row) → List·Memᴰ (rowKey (w .p) (solution (w .s) (by .R))) (keysOf table rows)
         of by =
             let (r, b, e, m) = in-slot (w .p) table₀ (w .heads) since old (w .chains) old (call (w .s) (by .C)) (omega arith) (by .there .0) in
             let behind-link : link ≤ r = omega (arith, late-row (w .p) table₀ from old r (w .s) (by .C) e m (by .there)) in
             let done = g .walked .done r behind-link b e in
             let same = pass-unique (passes-own w mask (a .q) (a .passes) (by .C) (done .R) (rw m at (done .together))) (by .passed) in
-            Memᴰ·cast (sym (solution-key w (by .R)) ∙ ap (λ (R : ℕ). rowKey slot R) (sym same)) (done .there)
+            Memᴰ·cast (sym (solution-key w (by .R)) ∙ ap (λ (R : ℕ). keyOf slot R) (sym same)) (done .there)

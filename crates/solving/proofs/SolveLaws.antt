@@ -17,13 +17,13 @@ use Rattle.marks.specs.Passing.{VariablesOf}
 use Rattle.marks.proofs.Passing.{pass-unique}
 use Rattle.program.specs.Program.{Nth, Clause, Program}
 use Rattle.program.specs.Shapes.{shapes}
+use Rattle.program.specs.Limits.{maxShapes}
 use Rattle.program.proofs.ShapeLaws.{nth-same}
-use Rattle.directory.specs.Layout.{maxShapes}
-use Rattle.rows.specs.Rows.{slotAt, maskAt, keysOf, keyOf as rowKey}
+use Rattle.rows.specs.Rows.{slotAt, maskAt, keysOf, keyOf}
 use Rattle.rows.proofs.Keys.{key-listed}
 use Rattle.table.specs.Rules.{Row, call, solution, solves}
 use Rattle.table.specs.NewRows.{New}
-use Rattle.table.specs.Keys.{keyOf, rowAt, Regular, regular-call}
+use Rattle.table.specs.Keys.{rowKey, rowAt, Regular, regular-call}
 use Rattle.table.proofs.Keys.{call-at}
 use Rattle.table.proofs.NewRows.{new-reached}
 use Rattle.steps.specs.Steps.{RowsIn, Given}
@@ -110,7 +110,7 @@ module _ {table : List ℕ} {since old newest slot : ℕ} (w : ToShape table sin
       rw e (call-at (w .p) (w .s) (maskAt table r) (omega (arith, to-shape-below))) in
       subst (RowsIn (w .p) (keysOf table old)) is there
 
-  pub solution-key : (R : ℕ) → rowKey slot R ≡ keyOf (w .p) (solution (w .s) R)
+  pub solution-key : (R : ℕ) → keyOf slot R ≡ rowKey (w .p) (solution (w .s) R)
   solution-key R = rw (w .slot-is) refl
 
   module _ (mask q : ℕ) (passes : PassesTo w mask q) where
@@ -122,7 +122,7 @@ module _ {table : List ℕ} {since old newest slot : ℕ} (w : ToShape table sin
     passes-own C R together = pass-own C R (passes .passed) together
 
     -- so the row is given by rule 3
-    pub solution-given : (C R : ℕ) → RowsIn (w .p) (keysOf table old) (call (w .s) C) → Together C mask R → Given (w .p) (keysOf table old) (rowKey slot R)
+    pub solution-given : (C R : ℕ) → RowsIn (w .p) (keysOf table old) (call (w .s) C) → Together C mask R → Given (w .p) (keysOf table old) (keyOf slot R)
     solution-given C R there together =
         let reached = new-reached modes (w .p) (RowsIn (w .p) (keysOf table 0)) (RowsIn (w .p) (keysOf table old)) (w .k) (length (w .c .body)) (head .N) (head .reached) in
         let same = nth-same (head .nth-clause) (w .nth-clause) in

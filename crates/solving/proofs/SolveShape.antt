@@ -20,7 +20,7 @@ use Rattle.rows.specs.MaskSet.{InSet}
 use Rattle.rows.specs.Store.{SameRows}
 use Rattle.rows.proofs.MaskSets.{was-there}
 use Rattle.table.specs.Rules.{Row, call}
-use Rattle.table.specs.Keys.{keyOf}
+use Rattle.table.specs.Keys.{rowKey}
 use Rattle.table.specs.NewRows.{NewReached}
 use Rattle.table.specs.RoundKeys.{Keyed}
 use Rattle.steps.specs.Steps.{RowsIn, Writable, Grew, Stepped}
@@ -135,7 +135,7 @@ module _ {table₀ : List ℕ} {since old newest slot : ℕ} (w : ToShape table�
           passed-before = λ fewer N few h. let (m, b, i, passes) = t .passed-before fewer N few h in (m, omega arith, i, passes);
         }
       where
-        at : (key : ℕ) (row : Row ℕ) (m : ℕ) → m < r → InSet found m → SolvedBy w from m row → key ≡ keyOf (w .p) row → Dec (m < q) → Keyed (w .p) (SolvedBelow w from found q) key
+        at : (key : ℕ) (row : Row ℕ) (m : ℕ) → m < r → InSet found m → SolvedBy w from m row → key ≡ rowKey (w .p) row → Dec (m < q) → Keyed (w .p) (SolvedBelow w from found q) key
         at key row m b i by e (yes d) = (row, (m, d, i, by), e)
         at key row m b i by e (no d) = absurd (none m (omega arith) b i)
 
@@ -188,7 +188,7 @@ module _ {table₀ : List ℕ} {since old newest slot : ℕ} (w : ToShape table�
           before : PassedBelow w found q mask
           before = was (decLt here passedMark)
 
-          at : (key : ℕ) (row : Row ℕ) (m : ℕ) → m < q + 1 → InSet found m → SolvedBy w from m row → key ≡ keyOf (w .p) row → Dec (m ≡ q) → Keyed (w .p) (SolvedBelow w from found q) key
+          at : (key : ℕ) (row : Row ℕ) (m : ℕ) → m < q + 1 → InSet found m → SolvedBy w from m row → key ≡ rowKey (w .p) row → Dec (m ≡ q) → Keyed (w .p) (SolvedBelow w from found q) key
           at key row m b i by e (yes d) =
               (row, (before .0, before .1, before .2, solved-alike w mask q passes (before .0) from row (before .3) (rw d at by)), e)
           at key row m b i by e (no d) = (row, (m, omega arith, i, by), e)
@@ -230,7 +230,7 @@ module _ {table₀ : List ℕ} {since old newest slot : ℕ} (w : ToShape table�
                     ⊎-elim (passed-more l N few) (λ of. absurd (let b = mask-within (passedMark + N) all of in omega (arith, l, b))) (put (passedMark + N) h);
               }
             where
-              at : (key : ℕ) (row : Row ℕ) (m : ℕ) → m < q + 1 → InSet found m → SolvedBy w from m row → key ≡ keyOf (w .p) row → Dec (m ≡ q) → Both key
+              at : (key : ℕ) (row : Row ℕ) (m : ℕ) → m < q + 1 → InSet found m → SolvedBy w from m row → key ≡ rowKey (w .p) row → Dec (m ≡ q) → Both key
               at key row m b i by e (yes d) = inr (inl (row, solved-stays w table n behind (t .grew .same-rows) (t .grew .same-length) from q row within-old (rw d at by), e))
               at key row m b i by e (no d) = inl (inl (row, (m, omega arith, i, by), e))
 

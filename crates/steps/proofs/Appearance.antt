@@ -18,12 +18,12 @@ use Rattle.terms.proofs.Masks.{has-none, has-one, marks-or, marks-for}
 use Rattle.marks.specs.Modes.{InOrder}
 use Rattle.program.specs.Program.{Nth, here, there}
 use Rattle.program.specs.Shapes.{met, number}
+use Rattle.program.specs.Lists.{Distinct}
 use Rattle.program.proofs.ShapeLaws.{nth-member, nth-getD, place-nth, met-has, met-occurs}
 use Rattle.program.proofs.OwnShape.{with-old, with-new, upTo, length-upTo, upTo-has}
 use Rattle.program.proofs.Nths.{nth-below, below-nth}
 use Rattle.directory.specs.Numbers.{metCell, metCells}
 use Rattle.directory.proofs.TermCells.{atom-met, atom-all-cells}
-use Rattle.table.specs.Table.{Distinct}
 use Rattle.table.proofs.Distinct.{distinct-length}
 use Rattle.table.proofs.ShapeVariables.{with-distinct}
 use Rattle.steps.specs.Situation.{AtomRun, AnAtom}

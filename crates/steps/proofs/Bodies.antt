@@ -7,8 +7,9 @@ use lib.ListN.{length, getD, take, length-append}
 use Rattle.terms.specs.Term.{Term}
 use Rattle.terms.specs.Cells.{Atom}
 use Rattle.program.specs.Program.{Nth, Clause, Program, bodies}
+use Rattle.program.specs.Limits.{maxBodies}
 use Rattle.program.proofs.Nths.{below-nth, nth-below}
-use Rattle.directory.specs.Layout.{clauseFirst, maxBodies}
+use Rattle.directory.specs.Layout.{clauseFirst}
 use Rattle.directory.specs.Directory.{BodyAt}
 use Rattle.directory.proofs.ClausesWalk.{bodies-next}
 use Rattle.directory.proofs.DirectoryLaws.{head-sound, body-sound}

@@ -9,7 +9,7 @@ use lib.Seq.{drop-cons}
 use Rattle.terms.specs.Term.{Term, Terms, app}
 use Rattle.terms.specs.Cells.{enc, encs, Atom}
 use Rattle.program.specs.Program.{Program}
-use Rattle.directory.specs.Layout.{maxBodies}
+use Rattle.program.specs.Limits.{maxBodies}
 use Rattle.directory.specs.Directory.{BodyAt, Stands-at}
 use Rattle.steps.specs.Situation.{Setting, BodyOf}
 use Rattle.steps.proofs.Bodies.{body-there, body-few, body-is-atom}

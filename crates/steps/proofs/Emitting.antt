@@ -12,16 +12,17 @@ use Rattle.marks.specs.Modes.{modes, Kept, Renumbered, Reordered}
 use Rattle.marks.proofs.RowMasks.{kept-by-list, reordered-renumbered}
 use Rattle.program.specs.Program.{Program}
 use Rattle.program.specs.Shapes.{shapeNumber, number, Listed}
+use Rattle.program.specs.Limits.{maxBodies}
 use Rattle.program.proofs.ShapeLaws.{body-shape}
 use Rattle.program.proofs.Nths.{nth-below}
-use Rattle.directory.specs.Layout.{bodyList, bodyShape, dirWords, maxBodies}
+use Rattle.directory.specs.Layout.{bodyList, bodyShape, dirWords}
 use Rattle.directory.specs.Directory.{BodyAt}
 use Rattle.rows.specs.Rows.{slots}
 use Rattle.rows.specs.Store.{Added}
 use Rattle.rows.proofs.AddedRows.{added-store}
 use Rattle.table.specs.Rules.{Row, call, cont, Reached, calls, conts}
 use Rattle.table.specs.Steps.{GoesOn, goes-call, goes-cont}
-use Rattle.table.specs.Keys.{firstCont, bodyIndex, keyOf}
+use Rattle.table.specs.Keys.{firstCont, bodyIndex, rowKey}
 use Rattle.table.specs.RoundKeys.{Keyed}
 use Rattle.table.proofs.ShapeVariables.{number-below}
 use Rattle.table.proofs.Steps.{goes-two}
@@ -84,7 +85,7 @@ module _ {dir order : List ℕ} {count j : ℕ} (w : Place dir order count j) wh
     kept-listed = kept-by-list (getD dir (bodyList + j) 0) mask listed (place-there .list) kept
 
     abbrev ContKey : ℕ → Type 0
-    ContKey key = key ≡ keyOf (w .p) (cont (suc (w .k)) (suc (w .i)) listed)
+    ContKey key = key ≡ rowKey (w .p) (cont (suc (w .k)) (suc (w .i)) listed)
 
     -- the cont row
     pub cont-stepped : (slot r : ℕ) (table′ buckets′ : List ℕ) → slot ≡ firstCont + j → Added table buckets n room round slot listed r table′ buckets′
@@ -106,7 +107,7 @@ module _ {dir order : List ℕ} {count j : ℕ} (w : Place dir order count j) wh
       numbered = reordered-renumbered order count mask renumbered (w .in-order) reordered
 
       abbrev CallKey : ℕ → Type 0
-      CallKey key = key ≡ keyOf (w .p) (call (shapeNumber (w .p) (w .A)) renumbered)
+      CallKey key = key ≡ rowKey (w .p) (call (shapeNumber (w .p) (w .A)) renumbered)
 
       -- and then the call row
       pub emitted-both : (next r shape : ℕ) (table′ buckets′ table″ buckets″ : List ℕ) → Stepped (w .p) ks round room n table buckets ContKey next table′ buckets′

@@ -6,10 +6,10 @@ use mathlib.Core.Logic.{_⊎_, inl, inr, ⊎-elim, _↔_}
 use mathlib.Core.List.{List}
 use lib.ListN.{length}
 use Rattle.rows.specs.MaskSet.{setWords, Inserted}
-use Rattle.steps.specs.Heads.{Marked}
+use Rattle.steps.specs.Heads.{Collected}
 
 -- marks by another name
-pub marked-same : {P Q : ℕ → Type 0} (found found′ : List ℕ) → ((N : ℕ) → P N ↔ Q N) → Marked P found found′ → Marked Q found found′
+pub marked-same : {P Q : ℕ → Type 0} (found found′ : List ℕ) → ((N : ℕ) → P N ↔ Q N) → Collected P found found′ → Collected Q found found′
 marked-same found found′ same m =
     record {
       size = m .size;
@@ -20,11 +20,11 @@ marked-same found found′ same m =
     }
 
 -- no marks
-pub marked-none : {P : ℕ → Type 0} (found : List ℕ) → length found ≡ setWords → ((N : ℕ) → P N → ⊥) → Marked P found found
+pub marked-none : {P : ℕ → Type 0} (found : List ℕ) → length found ≡ setWords → ((N : ℕ) → P N → ⊥) → Collected P found found
 marked-none found size none = record { size = size; members = λ q l. (inl, ⊎-elim (λ h. h) (λ h. absurd (none q h))) }
 
 -- some marks after others
-pub marked-then : {P Q : ℕ → Type 0} (found found′ found″ : List ℕ) → Marked P found found′ → Marked Q found′ found″ → Marked (λ N. P N ⊎ Q N) found found″
+pub marked-then : {P Q : ℕ → Type 0} (found found′ found″ : List ℕ) → Collected P found found′ → Collected Q found′ found″ → Collected (λ N. P N ⊎ Q N) found found″
 marked-then {P} {Q} found found′ found″ m m′ =
     record {
       size = m′ .size;
@@ -35,5 +35,5 @@ marked-then {P} {Q} found found′ found″ m m′ =
     }
 
 -- one mark
-pub marked-one : (found found′ : List ℕ) (q : ℕ) (b : Bool) → length found′ ≡ setWords → Inserted found found′ q b → Marked (λ N. N ≡ q) found found′
+pub marked-one : (found found′ : List ℕ) (q : ℕ) (b : Bool) → length found′ ≡ setWords → Inserted found found′ q b → Collected (λ N. N ≡ q) found found′
 marked-one found found′ q b size i = record { size = size; members = λ N l. i .members N }

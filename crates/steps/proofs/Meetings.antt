@@ -12,11 +12,13 @@ use Rattle.terms.specs.Unified.{Unified, Bindings, StoreOf, Unification, BothAt
 use Rattle.program.specs.Program.{Program}
 use Rattle.program.specs.Shapes.{shapes}
 use Rattle.program.specs.Within.{WithinLimits}
+use Rattle.program.specs.Limits.{maxShapes}
+use Rattle.program.specs.Lists.{between}
 use Rattle.program.proofs.ProgramWords.{sound-within}
 use Rattle.program.proofs.Nths.{nth-below}
-use Rattle.directory.specs.Layout.{functionsStart, predicatesStart, shapeStart, shapeCells, maxShapes}
+use Rattle.directory.specs.Layout.{functionsStart, predicatesStart, shapeStart, shapeCells}
 use Rattle.directory.specs.Directory.{ShapeAt, predicateOf}
-use Rattle.steps.specs.Parts.{between, shapeRun, ShapeIn, functionsRun, FunctionsIn}
+use Rattle.steps.specs.Parts.{shapeRun, ShapeIn, functionsRun, FunctionsIn}
 use Rattle.steps.specs.Situation.{Setting, Meeting, Unifying, Met, MetStore, MetBindings}
 use Rattle.steps.proofs.ShapeAtoms.{shape-is-atom}
 

@@ -10,8 +10,9 @@ use lib.Seq.{length-take-le}
 use Rattle.terms.specs.Term.{Term, Terms, app, Subst, sub, subs}
 use Rattle.program.specs.Program.{Nth, Program}
 use Rattle.program.specs.Shapes.{shapes}
+use Rattle.program.specs.Limits.{maxShapes}
 use Rattle.program.proofs.Nths.{nth-below}
-use Rattle.directory.specs.Layout.{functionsStart, predicatesStart, predicateShape, shapeNext, maxShapes}
+use Rattle.directory.specs.Layout.{functionsStart, predicatesStart, predicateShape, shapeNext}
 use Rattle.directory.specs.Directory.{Link, predicateOf}
 use Rattle.steps.specs.Situation.{Setting}
 use Rattle.steps.specs.Since.{SinceIn}

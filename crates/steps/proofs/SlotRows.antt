@@ -1,24 +1,23 @@
 -- Rows of the program and rows of the table: each row that is there has its place in the table, by slot and mask, and is new from `since` on.
-use Prim.Native.Nat.{ℕ, zero, suc, _+_, _*_, _≤_, _<_}
+use Prim.Native.Nat.{ℕ, _+_, _*_, _≤_, _<_}
 use native.Mathlib.Omega.{arith}
 use mathlib.Core.Path.{_≡_, refl, sym, ap, subst, _∙_}
-use mathlib.Core.Logic.{_⊎_, inl, inr, _↔_}
-use mathlib.Core.List.{List, List·Memᴰ}
-use lib.ListN.{length, getD}
+use mathlib.Core.List.{List}
+use lib.ListN.{length}
 use Rattle.program.specs.Program.{Program}
-use Rattle.rows.specs.Rows.{rowSize, masks, slotAt, maskAt, beforeAt, keyAt, keysOf}
+use Rattle.program.specs.Limits.{rowSize}
+use Rattle.rows.specs.Rows.{slotAt, maskAt, beforeAt, keyAt, keysOf}
 use Rattle.rows.specs.Store.{SameRows}
-use Rattle.rows.specs.Linked.{BySlot}
 use Rattle.rows.proofs.Keys.{key-slot, key-mask, key-listed, listed-key}
 use Rattle.rows.proofs.Chaining.{chained-same}
 use Rattle.rows.proofs.Adding.{same-slot, same-mask, same-key}
-use Rattle.table.specs.Rules.{Row, call, solution}
+use Rattle.table.specs.Rules.{Row}
 use Rattle.table.specs.Table.{mask}
-use Rattle.table.specs.Keys.{slotOf, keyOf, rowAt, rowOf, Few, Regular}
+use Rattle.table.specs.Keys.{slotOf, rowKey, rowAt, rowOf}
 use Rattle.table.proofs.Keys.{mask-small}
 use Rattle.table.proofs.Keys as keys
 use Rattle.steps.specs.Steps.{RowsIn}
-use Rattle.steps.specs.Situation.{Setting, Chains, Situation}
+use Rattle.steps.specs.Situation.{Chains}
 
 module _ (p : Program) (table heads : List ℕ) (since rows : ℕ) (C : Chains p table heads since rows) where
   row-is : (r : ℕ) → r < rows → rowOf p (keyAt table r) ≡ rowAt p (slotAt table r) (maskAt table r)
@@ -35,7 +34,7 @@ module _ (p : Program) (table heads : List ℕ) (since rows : ℕ) (C : Chains p
   pub in-slot : (n : ℕ) (row : Row ℕ) → n ≤ rows → RowsIn p (keysOf table n) row
       → (r : ℕ) × (r < n) × (slotAt table r ≡ slotOf p row) × (maskAt table r ≡ mask row)
   in-slot n row l h =
-      let (r, k, e) = listed-key table n (keyOf p row) (h .1) in (
+      let (r, k, e) = listed-key table n (rowKey p row) (h .1) in (
         r,
         k,
         key-slot (slotAt table r) (maskAt table r) (slotOf p row) (mask row) (C .masks-below r (omega arith)) (mask-small p (h .0)) e,
@@ -45,8 +44,8 @@ module _ (p : Program) (table heads : List ℕ) (since rows : ℕ) (C : Chains p
   -- a row of the table is in the older set exactly when it stands before `since`
   pub older-row : (r : ℕ) → r < rows → RowsIn p (keysOf table since) (rowAt p (slotAt table r) (maskAt table r)) → r < since
   older-row r h o =
-      let (q, k, e) = listed-key table since (keyOf p (rowAt p (slotAt table r) (maskAt table r))) (o .1) in
-      let f : keyAt table q ≡ keyAt table r = e ∙ ap (keyOf p) (sym (row-is r h)) ∙ C .regular r h .1 in
+      let (q, k, e) = listed-key table since (rowKey p (rowAt p (slotAt table r) (maskAt table r))) (o .1) in
+      let f : keyAt table q ≡ keyAt table r = e ∙ ap (rowKey p) (sym (row-is r h)) ∙ C .regular r h .1 in
       let g = C .distinct q r (omega (arith, C .new)) h f in
       omega arith
 
@@ -66,9 +65,3 @@ module _ (p : Program) (table heads : List ℕ) (since rows : ℕ) (C : Chains p
             C .distinct r q h k (sym (same-key table table′ n s r (omega arith)) ∙ f ∙ same-key table table′ n s q (omega arith));
         regular = λ r h. rw (same-key table table′ n s r (omega arith)) (C .regular r h);
       }
-
--- the situation stays while the first rows do
-pub situation-stays : (words dir table table′ heads : List ℕ) (since rows n : ℕ) → rows ≤ n → SameRows table table′ n → length table′ ≡ length table
-    → Situation words dir table heads since rows → Situation words dir table′ heads since rows
-situation-stays words dir table table′ heads since rows n l s e w =
-    record { p = w .p; setting = w .setting; chains = chains-stay (w .p) table heads since rows (w .chains) table′ n l s e }

@@ -1,26 +1,23 @@
 -- Steps of a round: nothing, one row, one step after another; and what stays under them.
-use Prim.Native.Nat.{ℕ, zero, suc, _+_, _*_, _≤_, _<_}
+use Prim.Native.Nat.{ℕ, _*_, _≤_, _<_}
 use native.Mathlib.Omega.{arith}
 use native.Mathlib.Decide.{decLt}
 use native.Mathlib.Nat.{le-trans}
-use mathlib.Core.Path.{_≡_, refl, sym, ap, subst, _∙_}
+use mathlib.Core.Path.{_≡_, refl, _∙_}
 use mathlib.Core.Logic.{_⊎_, inl, inr, ⊎-elim}
-use mathlib.Core.List.{List, [], _∷_, _++_, List·Memᴰ, List·Memᴰ·head, Memᴰ·append-right, Memᴰ·cast}
-use lib.ListN.{length, getD}
+use mathlib.Core.List.{List, List·Memᴰ, List·Memᴰ·head, Memᴰ·append-right, Memᴰ·cast}
+use lib.ListN.{length}
 use Rattle.program.specs.Program.{Program}
-use Rattle.rows.specs.Rows.{rowSize, maxRows, roundAt, keysOf, keyOf as rowKey}
-use Rattle.rows.specs.Store.{Store, SameRows, Grown, Added, there, new, full}
+use Rattle.program.specs.Limits.{rowSize}
+use Rattle.rows.specs.Rows.{roundAt, keysOf, keyOf}
+use Rattle.rows.specs.Store.{SameRows, Added, there, new, full}
 use Rattle.rows.proofs.Keys.{same-keys, keys-length}
 use Rattle.rows.proofs.Adding.{same-key}
-use Rattle.table.specs.Added.{Behind, Full}
 use Rattle.table.proofs.Added.{behind-same, behind-one, behind-then, behind-wider, behind-keeps}
 use Rattle.steps.specs.Steps.{Given, Writable, Grew, Overfull, Stepped}
 
 pub same-rows-then : (table table′ table″ : List ℕ) (n n′ : ℕ) → n ≤ n′ → SameRows table table′ n → SameRows table′ table″ n′ → SameRows table table″ n
 same-rows-then table table′ table″ n n′ l s s′ i h = s′ i (le-trans h (omega arith)) ∙ s i h
-
-pub same-rows-fewer : (table table′ : List ℕ) (n m : ℕ) → m ≤ n → SameRows table table′ n → SameRows table table′ m
-same-rows-fewer table table′ n m l s i h = s i (le-trans h (omega arith))
 
 -- the keys of the first rows stay
 pub keys-stay : (table table′ : List ℕ) (n m : ℕ) → m ≤ n → SameRows table table′ n → keysOf table′ m ≡ keysOf table m
@@ -126,10 +123,10 @@ module _ (p : Program) (ks : List ℕ) (round room : ℕ) where
 
   -- one row added, which the rules give
   pub added-stepped : (n slot mask r : ℕ) (table buckets table′ buckets′ : List ℕ) → Writable table buckets n room
-      → Given p ks (rowKey slot mask) → Added table buckets n room round slot mask r table′ buckets′ → length table′ ≡ length table
-      → Stepped p ks round room n table buckets (λ key. key ≡ rowKey slot mask) r table′ buckets′
+      → Given p ks (keyOf slot mask) → Added table buckets n room round slot mask r table′ buckets′ → length table′ ≡ length table
+      → Stepped p ks round room n table buckets (λ key. key ≡ keyOf slot mask) r table′ buckets′
   added-stepped n slot mask r table buckets table′ buckets′ w given (there m e t b) l =
-      rw (e, t, b) (stepped-none n table buckets (λ key. key ≡ rowKey slot mask) w (λ key q. Memᴰ·cast q m))
+      rw (e, t, b) (stepped-none n table buckets (λ key. key ≡ keyOf slot mask) w (λ key q. Memᴰ·cast q m))
   added-stepped n slot mask r table buckets table′ buckets′ w given (new out h e g) l =
       rw e
       (inl
@@ -139,7 +136,7 @@ module _ (p : Program) (ks : List ℕ) (round room : ℕ) where
         same-rows = g .same-rows;
         same-length = l;
         rounds = λ i k m. let q : i ≡ n = omega arith in rw q (g .its-round);
-        behind = rw (g .keys) (behind-wider (λ k q. rw q given) (behind-one (keysOf table n) (rowKey slot mask) out));
+        behind = rw (g .keys) (behind-wider (λ k q. rw q given) (behind-one (keysOf table n) (keyOf slot mask) out));
         all = λ key q. rw (g .keys) (Memᴰ·append-right (keysOf table n) (List·Memᴰ·head q));
       }))
   added-stepped n slot mask r table buckets table′ buckets′ w given (full out h e t b) l =
@@ -151,7 +148,7 @@ module _ (p : Program) (ks : List ℕ) (round room : ℕ) where
               record {
                 behind = behind-same (keysOf table n) (Given p ks);
                 at-room = keys-length table n ∙ h;
-                left = rowKey slot mask;
+                left = keyOf slot mask;
                 left-of = given;
                 left-out = out;
               };

@@ -11,7 +11,8 @@ use Rattle.marks.specs.Modes.{modes, Kept}
 use Rattle.marks.specs.Pass.{Pass}
 use Rattle.program.specs.Program.{Nth, Program, Clause}
 use Rattle.program.specs.Shapes.{shapes}
-use Rattle.rows.specs.Rows.{masks, keysOf}
+use Rattle.program.specs.Limits.{masks}
+use Rattle.rows.specs.Rows.{keysOf}
 use Rattle.rows.specs.MaskSet.{setWords, InSet}
 use Rattle.table.specs.Rules.{Row, call, solution}
 use Rattle.table.specs.NewRows.{New, NewReached}
@@ -31,7 +32,7 @@ pub record HeadMark (p : Program) (table : List ℕ) (since rows k i q : ℕ) : 
   pub kept : Kept (λ v. Occ v (c .head)) N q
 
 -- the set has gained exactly these marks
-pub record Marked (P : ℕ → Type 0) (found found′ : List ℕ) : Type 0 where
+pub record Collected (P : ℕ → Type 0) (found found′ : List ℕ) : Type 0 where
   pub size : length found′ ≡ setWords
   pub members : (q : ℕ) → q < masks → InSet found′ q ↔ (InSet found q ⊎ P q)
 

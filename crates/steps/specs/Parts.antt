@@ -1,13 +1,11 @@
 -- The parts of the words and of the directory in which a shape's cells and the functions' arities stand.
-use Prim.Native.Nat.{ℕ, _+_, _-_, _≤_, _<_}
+use Prim.Native.Nat.{ℕ, _+_, _≤_, _<_}
 use mathlib.Core.Path.{_≡_}
 use mathlib.Core.List.{List}
-use lib.ListN.{length, getD, take, drop}
-use Rattle.directory.specs.Layout.{functionsStart, clausesStart, shapeStart, shapeCells, maxShapes, dirWords}
-
--- the part of a list between two places
-abbrev pub between : List ℕ → ℕ → ℕ → List ℕ
-between l from to = take (to - from) (drop from l)
+use lib.ListN.{length, getD}
+use Rattle.program.specs.Lists.{between}
+use Rattle.program.specs.Limits.{maxShapes}
+use Rattle.directory.specs.Layout.{functionsStart, clausesStart, shapeStart, shapeCells, dirWords}
 
 -- the cells of a shape, and that they stand in the directory
 abbrev pub shapeRun : List ℕ → ℕ → List ℕ

@@ -13,11 +13,11 @@ use Rattle.marks.specs.Modes.{InOrder}
 use Rattle.program.specs.Program.{Nth, Clause, Program}
 use Rattle.program.specs.Shapes.{shapes, number}
 use Rattle.program.specs.Faults.{faults, sound}
+use Rattle.program.specs.Limits.{rowSize, masks, maxRows}
 use Rattle.directory.specs.Directory.{Directory, Stands-at}
-use Rattle.rows.specs.Rows.{rowSize, slots, masks, maxRows, maskAt, keyAt}
+use Rattle.rows.specs.Rows.{slots, maskAt, keyAt}
 use Rattle.rows.specs.Linked.{BySlot}
-use Rattle.rows.specs.Store.{Store}
-use Rattle.table.specs.Keys.{keyOf, rowOf, Regular, bodyIndex}
+use Rattle.table.specs.Keys.{rowKey, rowOf, Regular, bodyIndex}
 
 -- an accepted program with its directory
 pub record Setting (words dir : List ℕ) (p : Program) : Type 0 where
@@ -33,7 +33,7 @@ pub record Chains (p : Program) (table heads : List ℕ) (since rows : ℕ) : Ty
   pub fits : rowSize * rows ≤ length table
   pub masks-below : (r : ℕ) → r < rows → maskAt table r < masks
   pub distinct : (r q : ℕ) → r < rows → q < rows → keyAt table r ≡ keyAt table q → r ≡ q
-  pub regular : (r : ℕ) → r < rows → Regular p (rowOf p (keyAt table r)) × (keyOf p (rowOf p (keyAt table r)) ≡ keyAt table r)
+  pub regular : (r : ℕ) → r < rows → Regular p (rowOf p (keyAt table r)) × (rowKey p (rowOf p (keyAt table r)) ≡ keyAt table r)
 
 pub record Situation (words dir table heads : List ℕ) (since rows : ℕ) : Type 0 where
   pub p : Program

@@ -8,16 +8,17 @@ use Rattle.terms.specs.Term.{Term}
 use Rattle.marks.specs.Modes.{modes, Kept, Renumbered}
 use Rattle.program.specs.Program.{Nth, Clause, Program}
 use Rattle.program.specs.Shapes.{shapeNumber, number, Listed}
-use Rattle.rows.specs.Rows.{rowSize, maxRows, roundAt, keysOf}
+use Rattle.program.specs.Limits.{rowSize, maxRows}
+use Rattle.rows.specs.Rows.{roundAt, keysOf}
 use Rattle.rows.specs.Store.{Store, SameRows}
 use Rattle.table.specs.Rules.{Row, call, cont, Gives}
-use Rattle.table.specs.Keys.{keyOf, Regular}
+use Rattle.table.specs.Keys.{rowKey, Regular}
 use Rattle.table.specs.Added.{Behind, Full}
 use Rattle.table.specs.RoundKeys.{Keyed}
 
 -- the rows whose keys are in the list
 abbrev pub RowsIn : Program → List ℕ → Row ℕ → Type 0
-RowsIn p ks row = Regular p row × List·Memᴰ (keyOf p row) ks
+RowsIn p ks row = Regular p row × List·Memᴰ (rowKey p row) ks
 
 -- the keys of what the rules give from them
 abbrev pub Given : Program → List ℕ → ℕ → Type 0

@@ -13,7 +13,7 @@ use crate::noted_places::take_places;
 use terms::unifier::NO_PLACE;
 ghost use mathlib.Core.List.{List};
 ghost use Prim.Native.Nat.{ℕ, _+_, _<_};
-ghost use Rattle.directory.specs.Layout.{maxShapes};
+ghost use Rattle.program.specs.Limits.{maxShapes};
 ghost use Rattle.steps.specs.Situation.{Meeting, Met};
 ghost use Rattle.steps.specs.NoteWords.{wordAt, WordPut};
 ghost use Rattle.steps.specs.Unifiers.{takenAt, Room, Fitting, Notes, ApartNoted, UnifiedNoted, NextWord, NextWithin, PlacesTaken};

@@ -1,13 +1,10 @@
 -- An algebra of what is added to the keys kept: nothing, one key, one step after another, and a step that finds the room full.
-use Prim.Native.Nat.{ℕ, suc, _+_}
-use native.Mathlib.Omega.{arith}
-use native.Mathlib.Decide.{ℕ-discrete}
-use mathlib.Core.Path.{_≡_, refl, sym, ap, _∙_, subst}
+use Prim.Native.Nat.{ℕ, _+_}
+use mathlib.Core.Path.{_≡_, refl, sym, ap, _∙_}
 use mathlib.Core.Logic.{_⊎_, inl, inr, ⊎-elim, _↔_}
-use mathlib.Core.List.{List, [], _∷_, _++_, append-assoc, append-nil, List·Memᴰ, List·Memᴰ·head, List·Memᴰ·append-cases, List·Memᴰ·not-nil, List·Memᴰ·eq-of-singleton, Memᴰ·cast, Memᴰ·append-left, Memᴰ·append-right}
-use lib.ListN.{length, length-append}
-use Rattle.table.specs.Table.{Distinct}
-use Rattle.table.specs.Added.{Behind, Plus, Full, Below}
+use mathlib.Core.List.{List, [], _∷_, _++_, append-assoc, append-nil, List·Memᴰ, List·Memᴰ·append-cases, List·Memᴰ·not-nil, List·Memᴰ·eq-of-singleton, Memᴰ·cast, Memᴰ·append-left, Memᴰ·append-right}
+use Rattle.program.specs.Lists.{Distinct}
+use Rattle.table.specs.Added.{Behind, Plus, Full}
 use Rattle.table.proofs.Distinct.{distinct-append}
 
 module _ (ks : List ℕ) (S : ℕ → Type 0) (ks′ : List ℕ) where
@@ -21,17 +18,6 @@ module _ (ks : List ℕ) (S : ℕ → Type 0) (ks′ : List ℕ) where
 
   pub behind-distinct : Distinct ks → Behind ks S ks′ → Distinct ks′
   behind-distinct d b = rw (b .is) (distinct-append ks (b .new) d (b .distinct) (b .apart))
-
-  pub behind-length : (b : Behind ks S ks′) → length ks′ ≡ length ks + length (b .new)
-  behind-length b = rw (b .is) (length-append ks (b .new))
-
-  -- where the list is as long as before, nothing is new
-  pub behind-none : Behind ks S ks′ → length ks′ ≡ length ks → ks′ ≡ ks
-  behind-none b e = b .is ∙ (rw (empty (b .new) (omega (arith, behind-length b))) (append-nil ks))
-    where
-      empty : (l : List ℕ) → length l ≡ 0 → l ≡ []
-      empty [] h = refl
-      empty (a ∷ l) h = absurd (omega arith)
 
 -- the same list, and S of which nothing is new
 pub behind-same : (ks : List ℕ) (S : ℕ → Type 0) → Behind ks S ks
@@ -67,51 +53,6 @@ behind-then {ks} {ks′} {ks″} {S} {S′} b c = record {
 pub behind-wider : {ks ks′ : List ℕ} {S S′ : ℕ → Type 0} → ((k : ℕ) → S k → S′ k) → Behind ks S ks′ → Behind ks S′ ks′
 behind-wider w b = record { new = b .new; is = b .is; of = λ k m. w k (b .of k m); distinct = b .distinct; apart = b .apart }
 
--- nothing to add: all of it is there
-pub plus-old : (ks : List ℕ) (S : ℕ → Type 0) → ((k : ℕ) → S k → List·Memᴰ k ks) → Plus ks S ks
-plus-old ks S there = record { behind = behind-same ks S; all = there }
-
-pub plus-nothing : (ks : List ℕ) (S : ℕ → Type 0) → ((k : ℕ) → S k → ⊥) → Plus ks S ks
-plus-nothing ks S empty = plus-old ks S (λ k h. absurd (empty k h))
-
--- one key: it is there already, or it is put behind
-pub plus-there : (ks : List ℕ) (key : ℕ) → List·Memᴰ key ks → Plus ks (λ k. k ≡ key) ks
-plus-there ks key m = plus-old ks (λ k. k ≡ key) (λ k e. Memᴰ·cast e m)
-
-pub plus-one : (ks : List ℕ) (key : ℕ) → (List·Memᴰ key ks → ⊥) → Plus ks (λ k. k ≡ key) (ks ++ key ∷ [])
-plus-one ks key out = record { behind = behind-one ks key out; all = λ k e. Memᴰ·append-right ks (List·Memᴰ·head e) }
-
-pub plus-then : {ks ks′ ks″ : List ℕ} {S S′ : ℕ → Type 0} → Plus ks S ks′ → Plus ks′ S′ ks″ → Plus ks (λ k. S k ⊎ S′ k) ks″
-plus-then {ks′ = ks′} {ks″ = ks″} {S′ = S′} a b = record {
-  behind = behind-then (a .behind) (b .behind);
-  all = λ k. ⊎-elim (λ h. behind-keeps ks′ S′ ks″ (b .behind) k (a .all k h)) (b .all k);
-}
-
--- a larger set of which the rest is there
-pub plus-wider : {ks ks′ : List ℕ} {S S′ : ℕ → Type 0} → ((k : ℕ) → S k → S′ k) → ((k : ℕ) → S′ k → S k ⊎ List·Memᴰ k ks′) → Plus ks S ks′ → Plus ks S′ ks′
-plus-wider w rest a = record { behind = behind-wider w (a .behind); all = λ k h. ⊎-elim (a .all k) (λ m. m) (rest k h) }
-
-pub plus-for : {ks ks′ : List ℕ} {S S′ : ℕ → Type 0} → ((k : ℕ) → S k ↔ S′ k) → Plus ks S ks′ → Plus ks S′ ks′
-plus-for same a = plus-wider (λ k. same k .0) (λ k h. inl (same k .1 h)) a
-
--- a loop: the sets of the steps before, and the set of the next
-pub plus-start : (ks : List ℕ) (S : ℕ → ℕ → Type 0) → Plus ks (Below S 0) ks
-plus-start ks S = plus-nothing ks (Below S 0) (λ k (i, l, h). omega arith)
-
-below-next : (S : ℕ → ℕ → Type 0) (n k : ℕ) → Below S n k ⊎ S n k → Below S (suc n) k
-below-next S n k (inl (i, l, h)) = (i, omega arith, h)
-below-next S n k (inr h) = (n, omega arith, h)
-
-next-below : (S : ℕ → ℕ → Type 0) (n k : ℕ) → Below S (suc n) k → Below S n k ⊎ S n k
-next-below S n k (i, l, h) = at (ℕ-discrete i n)
-  where
-    at : Dec (i ≡ n) → Below S n k ⊎ S n k
-    at (yes e) = inr (subst (λ (j : ℕ). S j k) e h)
-    at (no ne) = inl (i, omega arith, h)
-
-pub plus-next : {ks ks′ ks″ : List ℕ} (S : ℕ → ℕ → Type 0) (n : ℕ) → Plus ks (Below S n) ks′ → Plus ks′ (S n) ks″ → Plus ks (Below S (suc n)) ks″
-plus-next S n a b = plus-for (λ k. (below-next S n k, next-below S n k)) (plus-then a b)
-
 -- what is there after a step: what was there, and the set
 pub plus-has : {ks ks′ : List ℕ} {S : ℕ → Type 0} → Plus ks S ks′ → (k : ℕ) → List·Memᴰ k ks′ ↔ (List·Memᴰ k ks ⊎ S k)
 plus-has {ks} {ks′} {S} a k = (
@@ -121,21 +62,6 @@ plus-has {ks} {ks′} {S} a k = (
 
 pub plus-distinct : {ks ks′ : List ℕ} {S : ℕ → Type 0} → Distinct ks → Plus ks S ks′ → Distinct ks′
 plus-distinct {ks} {ks′} {S} d a = behind-distinct ks S ks′ d (a .behind)
-
--- one key that is not there, and no room for it
-pub full-one : (ks : List ℕ) (key room : ℕ) → (List·Memᴰ key ks → ⊥) → length ks ≡ room → Full ks (λ k. k ≡ key) room ks
-full-one ks key room out e = record { behind = behind-same ks (λ k. k ≡ key); at-room = e; left = key; left-of = refl; left-out = out }
-
--- a step that finds the room full does so for a larger set
-pub full-wider : {ks ks′ : List ℕ} {S S′ : ℕ → Type 0} {room : ℕ} → ((k : ℕ) → S k → S′ k) → Full ks S room ks′ → Full ks S′ room ks′
-full-wider w f = record { behind = behind-wider w (f .behind); at-room = f .at-room; left = f .left; left-of = w (f .left) (f .left-of); left-out = f .left-out }
-
--- and after steps that found room
-pub plus-full : {ks ks′ ks″ : List ℕ} {S S′ : ℕ → Type 0} {room : ℕ} → Plus ks S ks′ → Full ks′ S′ room ks″ → Full ks (λ k. S k ⊎ S′ k) room ks″
-plus-full a f = record { behind = behind-then (a .behind) (f .behind); at-room = f .at-room; left = f .left; left-of = inr (f .left-of); left-out = f .left-out }
-
-pub full-next : {ks ks′ ks″ : List ℕ} {room : ℕ} (S : ℕ → ℕ → Type 0) (n : ℕ) → Plus ks (Below S n) ks′ → Full ks′ (S n) room ks″ → Full ks (Below S (suc n)) room ks″
-full-next S n a f = full-wider (below-next S n) (plus-full a f)
 
 -- the keys kept with the one left out are distinct, and more than the room
 pub full-distinct : {ks ks′ : List ℕ} {S : ℕ → Type 0} {room : ℕ} → Distinct ks → (f : Full ks S room ks′) → Distinct (f .left ∷ ks′)

@@ -11,7 +11,7 @@ use Rattle.program.specs.Shapes.{with}
 use Rattle.program.proofs.ShapeLaws.{member-decided}
 use Rattle.program.proofs.OwnShape.{with-old, with-new}
 use Rattle.table.specs.Rounds.{InRound, FirstIn, LeastOf}
-use Rattle.table.specs.Analysis.{Distinct}
+use Rattle.program.specs.Lists.{Distinct}
 use Rattle.table.proofs.Lists.{behind, behind-keeps, behind-has, has-behind}
 use Rattle.table.proofs.RulesOf.{Within, Finitary, rules-within}
 use Rattle.table.proofs.RoundsOf.{grows, least-in}

@@ -5,8 +5,8 @@ use mathlib.Core.Path.{_≡_, refl, sym}
 use mathlib.Core.Logic.{⊎-elim}
 use mathlib.Core.List.{List, [], _∷_, _++_, map, List·Memᴰ, List·Memᴰ·head, List·Memᴰ·tail, List·Memᴰ·append-cases, Memᴰ·cast}
 use lib.ListN.{length}
+use Rattle.program.specs.Lists.{Distinct}
 use Rattle.program.proofs.Counting.{without}
-use Rattle.table.specs.Table.{Distinct}
 use Rattle.table.proofs.Lists.{has-map}
 
 -- distinct elements that are all in another list are no more than its elements

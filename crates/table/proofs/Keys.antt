@@ -9,10 +9,12 @@ use lib.ListN.{length, take, length-append}
 use borrow.Author.Tests.{lt-ltb, le-ltb}
 use Rattle.terms.specs.Term.{Term}
 use Rattle.program.specs.Program.{Nth, here, there, Clause, Program, bodies}
+use Rattle.program.specs.Limits.{masks}
 use Rattle.program.proofs.Nths.{nth-below, below-nth, nth-left, nth-right}
 use Rattle.table.specs.Rules.{Row, call, cont, solution}
-use Rattle.table.specs.Table.{rowWords, mask, Entry, entryWords, Before}
-use Rattle.table.specs.Keys.{firstCont, firstSolution, masks, bodyIndex, slotOf, keyOf, clauseAt, placeAt, rowAt, rowOf, Few, Regular, regular-call, regular-cont, regular-solution, Slot, slot-call, slot-cont, slot-solution}
+use Rattle.table.specs.Table.{rowWords, mask, Entry, entryWords}
+use Rattle.table.specs.Analysis.{Before}
+use Rattle.table.specs.Keys.{firstCont, firstSolution, bodyIndex, slotOf, rowKey, clauseAt, placeAt, rowAt, rowOf, Few, Regular, regular-call, regular-cont, regular-solution}
 use Rattle.table.proofs.Ordering.{before-once}
 
 -- the body atoms of the first clauses, with one clause before them
@@ -133,26 +135,12 @@ module _ (p : Program) (few : Few p) where
   row-of-slot (regular-solution {s} {M} hs w l) = solution-at p s M
 
   -- and from its key
-  pub row-of-key : {row : Row ℕ} → Regular p row → rowOf p (keyOf p row) ≡ row
+  pub row-of-key : {row : Row ℕ} → Regular p row → rowOf p (rowKey p row) ≡ row
   row-of-key {row} g = rw (key-slot (slotOf p row) (mask row) (mask-small p g), key-mask (slotOf p row) (mask row) (mask-small p g)) (row-of-slot g)
 
   -- no two rows have one key
-  pub key-injective : {row row′ : Row ℕ} → Regular p row → Regular p row′ → keyOf p row ≡ keyOf p row′ → row ≡ row′
+  pub key-injective : {row row′ : Row ℕ} → Regular p row → Regular p row′ → rowKey p row ≡ rowKey p row′ → row ≡ row′
   key-injective g g′ e = sym (row-of-key g) ∙ (ap (rowOf p) e ∙ row-of-key g′)
-
-  -- a slot and a mask are read back from their row
-  pub slot-of-row : {slot : ℕ} → Slot p slot → (M : ℕ) → slotOf p (rowAt p slot M) ≡ slot
-  slot-of-row (slot-call {s} l) M = rw (call-at p s M (omega (arith, few .shapes-few)))
-  slot-of-row (slot-cont j l) M = rw (cont-at p j M (omega (arith, few .bodies-few))) (ap (λ (n : ℕ). firstCont + n) (body-at (p .clauses) j l .index))
-  slot-of-row (slot-solution s l) M = rw (solution-at p s M)
-
-  pub mask-of-row : {slot : ℕ} → Slot p slot → (M : ℕ) → mask (rowAt p slot M) ≡ M
-  mask-of-row (slot-call {s} l) M = rw (call-at p s M (omega (arith, few .shapes-few)))
-  mask-of-row (slot-cont j l) M = rw (cont-at p j M (omega (arith, few .bodies-few)))
-  mask-of-row (slot-solution s l) M = rw (solution-at p s M)
-
-  pub key-of-row : (key : ℕ) → Slot p (key / masks) → keyOf p (rowOf p key) ≡ key
-  key-of-row key h = rw (slot-of-row h (key % masks), mask-of-row h (key % masks)) (omega arith)
 
 -- of two keys the first is less where its slot is less, or its mask in the same slot
 pub key-less : (slot M slot′ M′ : ℕ) → M < masks → M′ < masks → slot * masks + M < slot′ * masks + M′ → (slot < slot′) ⊎ ((slot ≡ slot′) × (M < M′))
@@ -183,7 +171,7 @@ index-same p {k} {i} {k′} {i′} hc hA hc′ hA′ e = (
 
 module _ (p : Program) (few : Few p) where
   -- keys stand in the order of their rows' words
-  pub key-before : {row row′ : Row ℕ} → Regular p row → Regular p row′ → keyOf p row < keyOf p row′ → Before (rowWords row) (rowWords row′)
+  pub key-before : {row row′ : Row ℕ} → Regular p row → Regular p row′ → rowKey p row < rowKey p row′ → Before (rowWords row) (rowWords row′)
   key-before (regular-call {s} {M} hs w l) (regular-call {s = s′} {M = M′} hs′ w′ l′) h = at (key-less s M s′ M′ l l′ h)
     where
       at : (s < s′) ⊎ ((s ≡ s′) × (M < M′)) → Before (rowWords (call s M)) (rowWords (call s′ M′))
@@ -211,26 +199,26 @@ module _ (p : Program) (few : Few p) where
       at (inl g) = inr (refl, inl (omega arith))
       at (inr (e, g)) = inr (refl, inr (omega arith, inr (refl, inl g)))
 
-  pub before-key : {row row′ : Row ℕ} → Regular p row → Regular p row′ → Before (rowWords row) (rowWords row′) → keyOf p row < keyOf p row′
-  before-key {row} {row′} g g′ b = at (decLt (keyOf p row) (keyOf p row′)) (decLt (keyOf p row′) (keyOf p row))
+  pub before-key : {row row′ : Row ℕ} → Regular p row → Regular p row′ → Before (rowWords row) (rowWords row′) → rowKey p row < rowKey p row′
+  before-key {row} {row′} g g′ b = at (decLt (rowKey p row) (rowKey p row′)) (decLt (rowKey p row′) (rowKey p row))
     where
-      same : keyOf p row ≡ keyOf p row′ → keyOf p row < keyOf p row′
+      same : rowKey p row ≡ rowKey p row′ → rowKey p row < rowKey p row′
       same e = let d = key-injective p few g g′ e in absurd (before-once (rowWords row) (rowWords row′) b (subst (λ (r : Row ℕ). Before (rowWords r) (rowWords row)) d (subst (λ (r : Row ℕ). Before (rowWords row) (rowWords r)) (sym d) b)))
 
-      at : Dec (keyOf p row < keyOf p row′) → Dec (keyOf p row′ < keyOf p row) → keyOf p row < keyOf p row′
+      at : Dec (rowKey p row < rowKey p row′) → Dec (rowKey p row′ < rowKey p row) → rowKey p row < rowKey p row′
       at (yes l) _ = l
       at (no nl) (yes m) = absurd (before-once (rowWords row) (rowWords row′) b (key-before g′ g m))
       at (no nl) (no nm) = same (omega arith)
 
   -- entries stand by their rounds, and in one round by their keys
   pub entry-before : (e f : Entry) → Regular p (e .row) → Regular p (f .row)
-      → Before (entryWords e) (entryWords f) ↔ ((e .round < f .round) ⊎ ((e .round ≡ f .round) × (keyOf p (e .row) < keyOf p (f .row))))
+      → Before (entryWords e) (entryWords f) ↔ ((e .round < f .round) ⊎ ((e .round ≡ f .round) × (rowKey p (e .row) < rowKey p (f .row))))
   entry-before e f g g′ = (to, from)
     where
-      to : Before (entryWords e) (entryWords f) → (e .round < f .round) ⊎ ((e .round ≡ f .round) × (keyOf p (e .row) < keyOf p (f .row)))
+      to : Before (entryWords e) (entryWords f) → (e .round < f .round) ⊎ ((e .round ≡ f .round) × (rowKey p (e .row) < rowKey p (f .row)))
       to (inl l) = inl l
       to (inr (d, b)) = inr (d, before-key g g′ b)
 
-      from : (e .round < f .round) ⊎ ((e .round ≡ f .round) × (keyOf p (e .row) < keyOf p (f .row))) → Before (entryWords e) (entryWords f)
+      from : (e .round < f .round) ⊎ ((e .round ≡ f .round) × (rowKey p (e .row) < rowKey p (f .row))) → Before (entryWords e) (entryWords f)
       from (inl l) = inl l
       from (inr (d, l)) = inr (d, key-before g g′ l)

@@ -8,7 +8,7 @@ use Rattle.program.specs.Program.{Nth, Clause, Program}
 use Rattle.program.proofs.ShapeLaws.{nth-same}
 use Rattle.program.proofs.Nths.{nth-below}
 use Rattle.table.specs.Rules.{Row}
-use Rattle.table.specs.Keys.{keyOf}
+use Rattle.table.specs.Keys.{rowKey}
 use Rattle.table.specs.Steps.{GoesOn, goes-call, goes-cont, EndsIn, ends-in}
 use Rattle.table.specs.Added.{Below}
 use Rattle.table.specs.NewRows.{NewGoesOn, NewEnds, LateCalls, NewIn, NewGives}
@@ -48,7 +48,7 @@ module _ (p : Program) (T₀ T : Row ℕ → Type 0) where
       to (inr (inl (row, h, e))) = (row, inr (inl h), e)
       to (inr (inr (row, h, e))) = (row, inr (inr h), e)
 
-      from : (row : Row ℕ) → NewIn modes p T₀ T k row → key ≡ keyOf p row
+      from : (row : Row ℕ) → NewIn modes p T₀ T k row → key ≡ rowKey p row
           → Below (λ i. Keyed p (NewGoesOn modes p T₀ T k i)) (length (c .body)) key ⊎ (Keyed p (NewEnds modes p T₀ T k) key ⊎ Keyed p (LateCalls modes p T₀ T k) key)
       from row (inl (i, (N, reached, goes))) e = inl (i, goes-place hc goes, (row, (N, reached, goes), e))
       from row (inr (inl h)) e = inr (inl (row, h, e))

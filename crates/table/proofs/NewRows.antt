@@ -9,8 +9,6 @@ use Rattle.table.specs.Rules.{Row, call, cont, solution, Reached, first,
 use Rattle.table.specs.Rounds.{At}
 use Rattle.table.specs.Steps.{opens, makes, GoesOn, goes-call, goes-cont, EndsIn, ends-in, OnHead, on-head}
 use Rattle.table.specs.NewRows.{Earlier, NewReached, NewOnHead, new-on-head, NewGives}
-use Rattle.table.proofs.RulesOf.{Within}
-use Rattle.table.proofs.RuleLaws.{reached-within}
 
 module _ (D : Domain) (p : Program) (T₀ T : Row (D .Mark) → Type 0) where
   -- what is looked at is what the rules give
@@ -48,21 +46,6 @@ module _ (D : Domain) (p : Program) (T₀ T : Row (D .Mark) → Type 0) where
         at (yes old) (no new) = inr (M, s, L, row, row′, inr new, makes hc hA hs passed joined)
         at (no new) _ = inr (M, s, L, row, row′, inl new, makes hc hA hs passed joined)
 
-    -- so the marks that result are those of the round before and those of new rows
-    pub reached-split : Within T₀ T → (k i : ℕ) (N : D .Mark) → Reached D p T k i N ↔ (Reached D p T₀ k i N ⊎ NewReached D p T₀ T k i N)
-    reached-split w k i N = (λ r. reached-old-or-new r, ⊎-elim (λ r. reached-within D p T₀ T w r) (new-reached k i N))
-
-    -- and so it is on the heads
-    pub on-head-split : Within T₀ T → (k : ℕ) (N : D .Mark) → OnHead D p T k N ↔ (OnHead D p T₀ k N ⊎ NewOnHead D p T₀ T k N)
-    on-head-split w k N = (to, from)
-      where
-        to : OnHead D p T k N → OnHead D p T₀ k N ⊎ NewOnHead D p T₀ T k N
-        to (on-head hc reached) = ⊎-elim (λ r. inl (on-head hc r)) (λ r. inr (new-on-head hc r)) (reached-old-or-new reached)
-
-        from : OnHead D p T₀ k N ⊎ NewOnHead D p T₀ T k N → OnHead D p T k N
-        from (inl (on-head hc reached)) = on-head hc (reached-within D p T₀ T w reached)
-        from (inr head) = new-on-head-all head
-
     -- every row that the rules give is given by rows of the round before alone, or is looked at
     pub gives-old-or-new : (row : Row (D .Mark)) → Gives D p T row → Gives D p T₀ row ⊎ NewGives D p T₀ T row
     gives-old-or-new _ (calls {k} {i} {N = N} reached hc hA numbered) =
@@ -91,10 +74,6 @@ module _ (D : Domain) (p : Program) (goal : D .Mark) (decide : (k : ℕ) (row : 
   pub earlier-decided : (k : ℕ) (row : Row (D .Mark)) → Dec (Earlier D p goal k row)
   earlier-decided zero row = no (λ x. x)
   earlier-decided (suc k) row = decide k row
-
-  pub earlier-within : (k : ℕ) → Within (Earlier D p goal k) (At D p goal k)
-  earlier-within zero row x = absurd x
-  earlier-within (suc k) row r = inl r
 
   -- the rounds: what the rules give from the rows so far is there already, or is looked at
   pub round-covered : (k : ℕ) (row : Row (D .Mark)) → Gives D p (At D p goal k) row

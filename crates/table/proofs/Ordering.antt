@@ -6,7 +6,8 @@ use mathlib.Core.Path.{_≡_, refl, sym, ap, _∙_}
 use mathlib.Core.Logic.{_⊎_, inl, inr, ⊎-elim, _↔_}
 use mathlib.Core.List.{List, [], _∷_, _++_, append-assoc, List·Memᴰ, List·Memᴰ·head, List·Memᴰ·tail, List·Memᴰ·cases-cons, List·Memᴰ·append-cases, List·Memᴰ·not-nil}
 use lib.ListN.{length, length-append}
-use Rattle.table.specs.Analysis.{Dated, Before, Distinct, datedWords, allWords, Ascends}
+use Rattle.table.specs.Analysis.{Dated, Before, datedWords, allWords, Ascends}
+use Rattle.program.specs.Lists.{Distinct}
 
 -- no list of words stands before one that stands before it, so none before itself
 pub before-once : (vs ws : List ℕ) → Before vs ws → Before ws vs → ⊥

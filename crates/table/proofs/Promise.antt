@@ -11,11 +11,13 @@ use Rattle.program.specs.Program.{Program}
 use Rattle.program.specs.Reply.{accepted, noRoom, withdrawn, done}
 use Rattle.program.specs.Faults.{sound, faults}
 use Rattle.program.specs.declared.reply.Reply.{Reply}
+use Rattle.program.specs.Limits.{rowSize}
+use Rattle.program.specs.Lists.{Distinct}
 use Rattle.program.proofs.FaultNumbers.{fault-number}
 use Rattle.table.specs.Rules.{Row, call, cont, solution, Row-discrete}
 use Rattle.table.specs.Rounds.{First, Least, Appears}
-use Rattle.table.specs.Analysis.{Before, Distinct}
-use Rattle.table.specs.Table.{rowWords, rowSize, modesOf, Entry, entryWords, tableWords, Ascending, roomIn, TableOf, MoreThan, Promise}
+use Rattle.table.specs.Analysis.{Before}
+use Rattle.table.specs.Table.{rowWords, modesOf, Entry, entryWords, tableWords, Ascending, roomIn, TableOf, MoreThan, Promise}
 use Rattle.table.proofs.RuleLaws.{gives-finitary}
 use Rattle.table.proofs.Computed.{given, rowsAt}
 use Rattle.table.proofs.ComputedLaws.{given-all}

@@ -19,12 +19,13 @@ use Rattle.program.specs.Shapes.{number, shapeOf, Listed}
 use Rattle.program.specs.Atoms.{meet}
 use Rattle.program.specs.Within.{after, afters, Numbered, Numbereds, WithinLimits}
 use Rattle.program.specs.Faults.{sound, faults}
+use Rattle.program.specs.Limits.{masks}
 use Rattle.program.proofs.ShapeLaws.{nth-member, nth-same, body-shape, goal-shape}
 use Rattle.program.proofs.GoalShape.{goal-own-shape}
 use Rattle.program.proofs.ProgramWords.{sound-within}
 use Rattle.table.specs.Rules.{Row, call, calls, conts, solves}
 use Rattle.table.specs.Rounds.{At, Closed}
-use Rattle.table.specs.Keys.{masks, Regular, regular-call, regular-cont, regular-solution}
+use Rattle.table.specs.Keys.{Regular, regular-call, regular-cont, regular-solution}
 use Rattle.table.proofs.RoundLaws.{at-within}
 use Rattle.table.proofs.ShapeVariables.{each-member, atoms-variables, in-take, shape-variables}
 

@@ -2,7 +2,7 @@
 use Prim.Native.Nat.{ℕ, suc}
 use native.Mathlib.Omega.{arith}
 use mathlib.Core.Path.{_≡_, refl, sym, ap, _∙_}
-use mathlib.Core.Logic.{inl, inr, ⊎-elim, _↔_}
+use mathlib.Core.Logic.{inl, inr, ⊎-elim}
 use mathlib.Core.List.{List, [], _∷_, map, List·Memᴰ, List·Memᴰ·head, List·Memᴰ·cases-cons, List·Memᴰ·not-nil, List·Memᴰ·eq-of-singleton}
 use lib.ListN.{length-map}
 use Rattle.marks.specs.Modes.{modes}
@@ -10,16 +10,16 @@ use Rattle.program.specs.Program.{Program}
 use Rattle.program.specs.Faults.{sound, faults}
 use Rattle.program.proofs.ProgramWords.{sound-within}
 use Rattle.table.specs.Rules.{Row, call}
-use Rattle.table.specs.Rounds.{At, First, Least}
+use Rattle.table.specs.Rounds.{At, First}
 use Rattle.table.specs.Table.{MoreThan}
-use Rattle.table.specs.Keys.{keyOf, rowOf, Few, Regular}
+use Rattle.table.specs.Keys.{rowKey, rowOf, Few}
 use Rattle.table.specs.Added.{Behind, Plus, Full}
 use Rattle.table.specs.NewRows.{Earlier, NewGives}
 use Rattle.table.specs.RoundKeys.{Keyed, RoundKeys, Looked}
 use Rattle.table.proofs.Lists.{has-map}
 use Rattle.table.proofs.Distinct.{distinct-map}
 use Rattle.table.proofs.RulesOf.{Within}
-use Rattle.table.proofs.RoundLaws.{rounds-grow, least-at}
+use Rattle.table.proofs.RoundLaws.{rounds-grow}
 use Rattle.table.proofs.ComputedLaws.{at-decided}
 use Rattle.table.proofs.ModesComputed.{modes-lists}
 use Rattle.table.proofs.ShapeVariables.{within-few}
@@ -30,10 +30,10 @@ use Rattle.table.proofs.NewRows.{new-gives, round-split}
 
 module _ (p : Program) where
   -- "Round 0 has one row, the goal's call."
-  pub round-zero : RoundKeys p 0 (keyOf p (call 0 (p .ground)) ∷ [])
+  pub round-zero : RoundKeys p 0 (rowKey p (call 0 (p .ground)) ∷ [])
   round-zero = record {
     distinct = (List·Memᴰ·not-nil, tt);
-    each = λ key. (λ m. (call 0 (p .ground), refl, List·Memᴰ·eq-of-singleton m), λ (row, r, e). List·Memᴰ·head (e ∙ ap (keyOf p) r));
+    each = λ key. (λ m. (call 0 (p .ground), refl, List·Memᴰ·eq-of-singleton m), λ (row, r, e). List·Memᴰ·head (e ∙ ap (rowKey p) r));
   }
 
   -- the goal's call is a row, so that room for none is exceeded
@@ -76,31 +76,16 @@ module _ (words : List ℕ) (p : Program) (accepted : faults words ≡ sound p) 
   few = within-few p (sound-within words p accepted)
 
   -- a row is in a round where its key is kept for the round
-  pub keyed-at : (j k : ℕ) (row : Row ℕ) → At modes p (p .ground) j row → Keyed p (At modes p (p .ground) k) (keyOf p row) → At modes p (p .ground) k row
+  pub keyed-at : (j k : ℕ) (row : Row ℕ) → At modes p (p .ground) j row → Keyed p (At modes p (p .ground) k) (rowKey p row) → At modes p (p .ground) k row
   keyed-at j k row r (row′, r′, e) = rw (key-injective p few (at-regular words p accepted j row r) (at-regular words p accepted k row′ r′) e) r′
 
   -- a round that adds nothing is the last
   pub stop-keys : (k : ℕ) {ks : List ℕ} → RoundKeys p k ks → Plus ks (Looked p k) ks → Within (At modes p (p .ground) (suc k)) (At modes p (p .ground) k)
   stop-keys k {ks} kept plus row r =
-      keyed-at (suc k) k row r (kept .each (keyOf p row) .0 (round-next p k kept plus .each (keyOf p row) .1 (row, r, refl)))
-
-  -- and its keys are those of the least set
-  pub stop-least : (k : ℕ) {ks : List ℕ} → RoundKeys p k ks → Plus ks (Looked p k) ks → (row : Row ℕ) → Least modes p (p .ground) row ↔ (Regular p row × List·Memᴰ (keyOf p row) ks)
-  stop-least k {ks} kept plus row = (to, from)
-    where
-      same : Least modes p (p .ground) row ↔ At modes p (p .ground) k row
-      same = least-at modes p (p .ground) k (stop-keys k kept plus) row
-
-      to : Least modes p (p .ground) row → Regular p row × List·Memᴰ (keyOf p row) ks
-      to least = (at-regular words p accepted k row (same .0 least), kept .each (keyOf p row) .1 (row, same .0 least, refl))
-
-      from : Regular p row × List·Memᴰ (keyOf p row) ks → Least modes p (p .ground) row
-      from (regular, m) =
-          let (row′, r, e) = kept .each (keyOf p row) .0 m in
-          same .1 (rw (key-injective p few regular (at-regular words p accepted k row′ r) e) r)
+      keyed-at (suc k) k row r (kept .each (rowKey p row) .0 (round-next p k kept plus .each (rowKey p row) .1 (row, r, refl)))
 
   -- a row is read back from its key
-  pub keyed-row : (T : Row ℕ → Type 0) (k key : ℕ) → Within T (At modes p (p .ground) k) → Keyed p T key → T (rowOf p key) × (keyOf p (rowOf p key) ≡ key)
+  pub keyed-row : (T : Row ℕ → Type 0) (k key : ℕ) → Within T (At modes p (p .ground) k) → Keyed p T key → T (rowOf p key) × (rowKey p (rowOf p key) ≡ key)
   keyed-row T k key within (row, r, e) =
       let back : rowOf p key ≡ row = ap (rowOf p) e ∙ row-of-key p few (at-regular words p accepted k row (within row r)) in
       (rw back r, rw back (sym e))
@@ -109,7 +94,7 @@ module _ (words : List ℕ) (p : Program) (accepted : faults words ≡ sound p) 
   pub full-more : (k : ℕ) {ks ks′ : List ℕ} {room : ℕ} → RoundKeys p k ks → Full ks (Looked p k) room ks′ → MoreThan p room
   full-more k {ks} {ks′} {room} kept full = record {
     rows = map (rowOf p) (full .left ∷ ks′);
-    distinct = distinct-map (rowOf p) (full .left ∷ ks′) (full-distinct (kept .distinct) full) (λ a b m n e. sym (each a m .1) ∙ (ap (keyOf p) e ∙ each b n .1));
+    distinct = distinct-map (rowOf p) (full .left ∷ ks′) (full-distinct (kept .distinct) full) (λ a b m n e. sym (each a m .1) ∙ (ap (rowKey p) e ∙ each b n .1));
     appear = λ row m. let (key, m′, e) = has-map (rowOf p) (full .left ∷ ks′) m in (suc k, rw e (each key m′ .0));
     more = rw length-map (omega (arith, full .at-room));
   }
@@ -117,7 +102,7 @@ module _ (words : List ℕ) (p : Program) (accepted : faults words ≡ sound p) 
       left : Keyed p (At modes p (p .ground) (suc k)) (full .left)
       left = let (row, g, e) = full .left-of in (row, looked-at p k row g, e)
 
-      each : (key : ℕ) → List·Memᴰ key (full .left ∷ ks′) → At modes p (p .ground) (suc k) (rowOf p key) × (keyOf p (rowOf p key) ≡ key)
+      each : (key : ℕ) → List·Memᴰ key (full .left ∷ ks′) → At modes p (p .ground) (suc k) (rowOf p key) × (rowKey p (rowOf p key) ≡ key)
       each key m = keyed-row (At modes p (p .ground) (suc k)) (suc k) key (λ _ r. r) (⊎-elim
           (λ (e : key ≡ full .left). rw e left)
           (λ (m′ : List·Memᴰ key ks′). behind-keyed p k kept (full .behind) key m′)

@@ -14,10 +14,10 @@ use Rattle.program.specs.Limits.{maxBody}
 use Rattle.program.specs.Program.{Nth, Clause, Program, bodies}
 use Rattle.program.specs.Shapes.{with, met, mets, number, shapeOf, distinct, shapes, In}
 use Rattle.program.specs.Within.{Each, more, WithinClause, WithinLimits}
+use Rattle.program.specs.Lists.{Distinct}
 use Rattle.program.proofs.ShapeLaws.{nth-member, place-nth, met-has, has-with, met-occurs}
 use Rattle.program.proofs.OwnShape.{upTo, length-upTo, upTo-has}
 use Rattle.program.proofs.Nths.{nth-below}
-use Rattle.table.specs.Table.{Distinct}
 use Rattle.table.specs.Keys.{Few}
 use Rattle.table.proofs.Lists.{has-map}
 use Rattle.table.proofs.Distinct.{distinct-length}

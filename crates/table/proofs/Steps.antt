@@ -14,7 +14,7 @@ use Rattle.program.specs.Program.{Nth, Clause, Program}
 use Rattle.program.specs.Shapes.{shapes, shapeNumber, number, Listed}
 use Rattle.program.proofs.ShapeLaws.{nth-same}
 use Rattle.table.specs.Rules.{Row, call, cont, solution}
-use Rattle.table.specs.Keys.{keyOf}
+use Rattle.table.specs.Keys.{rowKey}
 use Rattle.table.specs.Steps.{Opens, opens, Makes, makes, GoesOn, goes-call, goes-cont, EndsIn, ends-in}
 use Rattle.table.specs.RoundKeys.{Keyed}
 
@@ -34,8 +34,8 @@ module _ (p : Program) {k s : ℕ} {c : Clause} {S : Term} (hc : Nth (p .clauses
   opens-apart apart (opens hc′ hs′ passed) = pass-not-apart (rw (nth-same hc′ hc, nth-same hs′ hs) at passed) apart
 
   -- rule 3
-  pub ends-one : {N C R : ℕ} → Pass (c .head) N S C R → (key : ℕ) → Keyed p (EndsIn modes p k N s C) key ↔ (key ≡ keyOf p (solution s R))
-  ends-one {N} {C} {R} passed key = (λ (row, h, e). e ∙ ap (keyOf p) (to h), λ e. (solution s R, ends-in hc hs passed, e))
+  pub ends-one : {N C R : ℕ} → Pass (c .head) N S C R → (key : ℕ) → Keyed p (EndsIn modes p k N s C) key ↔ (key ≡ rowKey p (solution s R))
+  ends-one {N} {C} {R} passed key = (λ (row, h, e). e ∙ ap (rowKey p) (to h), λ e. (solution s R, ends-in hc hs passed, e))
     where
       to : {row : Row ℕ} → EndsIn modes p k N s C row → row ≡ solution s R
       to (ends-in hc′ hs′ passed′) = ap (solution s) (pass-unique (rw (nth-same hc′ hc, nth-same hs′ hs) at passed′) passed)
@@ -62,18 +62,18 @@ module _ (p : Program) {k i : ℕ} {c : Clause} {A : Term} (hc : Nth (p .clauses
 
   -- a call row and a cont row
   pub goes-two : (N R R′ : ℕ) → Renumbered A (number A) N R → Kept (Listed c i) N R′
-      → (key : ℕ) → Keyed p (GoesOn modes p k i N) key ↔ ((key ≡ keyOf p (call (shapeNumber p A) R)) ⊎ (key ≡ keyOf p (cont (suc k) (suc i) R′)))
+      → (key : ℕ) → Keyed p (GoesOn modes p k i N) key ↔ ((key ≡ rowKey p (call (shapeNumber p A) R)) ⊎ (key ≡ rowKey p (cont (suc k) (suc i) R′)))
   goes-two N R R′ numbered kept key = (λ (row, h, e). to h e, from)
     where
       same-call : {A′ : Term} {Q : ℕ} → A′ ≡ A → Q ≡ R → call (shapeNumber p A′) Q ≡ call (shapeNumber p A) R
       same-call d e = rw (d, e)
 
-      to : {row : Row ℕ} → GoesOn modes p k i N row → key ≡ keyOf p row → (key ≡ keyOf p (call (shapeNumber p A) R)) ⊎ (key ≡ keyOf p (cont (suc k) (suc i) R′))
+      to : {row : Row ℕ} → GoesOn modes p k i N row → key ≡ rowKey p row → (key ≡ rowKey p (call (shapeNumber p A) R)) ⊎ (key ≡ rowKey p (cont (suc k) (suc i) R′))
       to (goes-call {A = A′} {R = Q} hc′ hA′ numbered′) e =
           let d = same-atom hc′ hA′ in
-          inl (e ∙ ap (keyOf p) (same-call d (renumbered-unique A (number A) N Q R (rw d at numbered′) numbered)))
-      to (goes-cont {R = Q} hc′ hA′ kept′) e = inr (e ∙ ap (λ (M : ℕ). keyOf p (cont (suc k) (suc i) M)) (kept-unique (Listed c i) N Q R′ (rw (nth-same hc′ hc) at kept′) kept))
+          inl (e ∙ ap (rowKey p) (same-call d (renumbered-unique A (number A) N Q R (rw d at numbered′) numbered)))
+      to (goes-cont {R = Q} hc′ hA′ kept′) e = inr (e ∙ ap (λ (M : ℕ). rowKey p (cont (suc k) (suc i) M)) (kept-unique (Listed c i) N Q R′ (rw (nth-same hc′ hc) at kept′) kept))
 
-      from : (key ≡ keyOf p (call (shapeNumber p A) R)) ⊎ (key ≡ keyOf p (cont (suc k) (suc i) R′)) → Keyed p (GoesOn modes p k i N) key
+      from : (key ≡ rowKey p (call (shapeNumber p A) R)) ⊎ (key ≡ rowKey p (cont (suc k) (suc i) R′)) → Keyed p (GoesOn modes p k i N) key
       from (inl e) = (call (shapeNumber p A) R, goes-call hc hA numbered, e)
       from (inr e) = (cont (suc k) (suc i) R′, goes-cont hc hA kept, e)

@@ -7,7 +7,8 @@ use mathlib.Core.Logic.{_⊎_, inl, inr, _↔_}
 use mathlib.Core.List.{List, [], _∷_, map, List·Memᴰ, Memᴰ·cast, Memᴰ·map}
 use lib.ListN.{length, length-map}
 use Rattle.table.specs.Rounds.{InRound, FirstIn, LeastOf, InSome}
-use Rattle.table.specs.Analysis.{Analysis, Dated, Distinct, Ascends, IsTable, Exceeds}
+use Rattle.table.specs.Analysis.{Analysis, Dated, Ascends, IsTable, Exceeds}
+use Rattle.program.specs.Lists.{Distinct}
 use Rattle.table.proofs.Lists.{has-map}
 use Rattle.table.proofs.Distinct.{distinct-length, distinct-map}
 use Rattle.table.proofs.RulesOf.{Within, Finitary}

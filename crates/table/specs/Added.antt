@@ -3,7 +3,7 @@ use Prim.Native.Nat.{ℕ, _<_}
 use mathlib.Core.Path.{_≡_}
 use mathlib.Core.List.{List, [], _∷_, _++_, List·Memᴰ}
 use lib.ListN.{length}
-use Rattle.table.specs.Table.{Distinct}
+use Rattle.program.specs.Lists.{Distinct}
 
 -- keys of S, each once and none that was there, stand behind those that were there
 pub record Behind (ks : List ℕ) (S : ℕ → Type 0) (ks′ : List ℕ) : Type 0 where

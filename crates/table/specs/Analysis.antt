@@ -5,6 +5,7 @@ use mathlib.Core.Logic.{_⊎_}
 use mathlib.Core.List.{List, [], _∷_, _++_, List·Memᴰ}
 use lib.ListN.{length}
 use Rattle.program.specs.Limits.{maxRows}
+use Rattle.program.specs.Lists.{Distinct}
 use Rattle.table.specs.Rounds.{FirstIn, InSome}
 
 pub record Analysis : Type 1 where
@@ -27,11 +28,6 @@ abbrev pub Before : List ℕ → List ℕ → Type 0
 Before [] ws = ⊥
 Before (v ∷ vs) [] = ⊥
 Before (v ∷ vs) (w ∷ ws) = (v < w) ⊎ ((v ≡ w) × Before vs ws)
-
--- none of the list stands in it twice
-abbrev pub Distinct : {A : Type 0} → List A → Type 0
-Distinct [] = Unit {0}
-Distinct (a ∷ rest) = (List·Memᴰ a rest → ⊥) × Distinct rest
 
 module _ {R : Type 0} (words : R → List ℕ) where
   -- the round stands first

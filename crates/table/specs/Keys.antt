@@ -1,26 +1,24 @@
 -- Rows as numbers, as the analysis keeps them: a slot for the kind, a and b of a row, and a key for the whole row.
-use Prim.Native.Nat.{ℕ, zero, suc, _+_, _-_, _*_, _/_, _%_, _<_, _≤_}
+use Prim.Native.Nat.{ℕ, zero, suc, _+_, _-_, _/_, _%_, _<_, _≤_}
 use mathlib.Core.List.{List, [], _∷_}
 use lib.ListN.{length, take}
 use lib.Dec.{ltb}
 use Rattle.terms.specs.Term.{Term, Occ}
 use Rattle.terms.specs.Cells.{pick}
 use Rattle.terms.specs.Mask.{Has}
+use Rattle.program.specs.Limits.{masks, maxShapes}
 use Rattle.program.specs.Program.{Nth, Clause, Program, bodies}
 use Rattle.program.specs.Shapes.{shapes, Listed}
+use Rattle.rows.specs.Rows.{keyOf}
 use Rattle.table.specs.Rules.{Row, call, cont, solution}
 use Rattle.table.specs.Table.{mask}
 
 -- the slots of calls stand below these of conts, and these below those of solutions
 abbrev pub firstCont : ℕ
-firstCont = 1025
+firstCont = maxShapes
 
 abbrev pub firstSolution : ℕ
-firstSolution = 2050
-
--- masks are below this: "v is at most 15"
-abbrev pub masks : ℕ
-masks = 65536
+firstSolution = firstCont + maxShapes
 
 -- the number of a clause's body atom among all body atoms "in program order", all counted from 0
 abbrev pub bodyIndex : Program → ℕ → ℕ → ℕ
@@ -34,8 +32,8 @@ slotOf p (cont (suc k) zero M) = firstCont
 slotOf p (cont zero i M) = firstCont
 slotOf p (solution s M) = firstSolution + s
 
-abbrev pub keyOf : Program → Row ℕ → ℕ
-keyOf p row = slotOf p row * masks + mask row
+abbrev pub rowKey : Program → Row ℕ → ℕ
+rowKey p row = keyOf (slotOf p row) (mask row)
 
 -- the clause of the body atom j of all, and its place in that clause
 abbrev pub clauseAt : List Clause → ℕ → ℕ
@@ -68,9 +66,3 @@ pub data Regular (p : Program) : Row ℕ → Type 0 where
   regular-cont : {k i M : ℕ} {c : Clause} {A : Term} → Nth (p .clauses) k c → Nth (c .body) i A → ((v : ℕ) → Has M v → Listed c i v) → M < masks
       → Regular p (cont (suc k) (suc i) M)
   regular-solution : {s M : ℕ} {S : Term} → Nth (shapes p) s S → ((v : ℕ) → Has M v → Occ v S) → M < masks → Regular p (solution s M)
-
--- the slots that rows have
-pub data Slot (p : Program) : ℕ → Type 0 where
-  slot-call : {s : ℕ} → s < length (shapes p) → Slot p s
-  slot-cont : (j : ℕ) → j < length (bodies (p .clauses)) → Slot p (firstCont + j)
-  slot-solution : (s : ℕ) → s < length (shapes p) → Slot p (firstSolution + s)

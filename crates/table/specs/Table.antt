@@ -3,12 +3,12 @@ use Prim.Native.Nat.{ℕ}
 use mathlib.Core.List.{List, [], _∷_}
 use Rattle.marks.specs.Modes.{modes}
 use Rattle.program.specs.Program.{Program}
+use Rattle.program.specs.Limits.{rowSize}
 use Rattle.program.specs.Faults.{faults}
 use Rattle.program.specs.declared.reply.Reply.{Reply}
 use Rattle.table.specs.Rules.{Row, call, cont, solution, Gives}
 use Rattle.table.specs.Analysis.{Analysis, Dated, datedWords, allWords, Ascends, roomOf, IsTable, Exceeds}
 use Rattle.table.specs.Promise.{PromiseOf}
-pub use Rattle.table.specs.Analysis.{Before, Distinct}
 
 -- "kind (1 call, 2 cont, 3 solution), a, b, mask. For calls and solutions a is the shape, b is 0; for conts a is the clause (from 1), b the place."
 abbrev pub rowWords : Row ℕ → List ℕ
@@ -20,10 +20,6 @@ abbrev pub mask : Row ℕ → ℕ
 mask (call s M) = M
 mask (cont n i M) = M
 mask (solution s M) = M
-
--- "A row is five words: round, kind, a, b, mask."
-abbrev pub rowSize : ℕ
-rowSize = 5
 
 -- the rows that the mode rules give from the goal's call
 abbrev pub modesOf : Program → Analysis

@@ -6,6 +6,7 @@ use mathlib.Core.List.{List, [], _∷_}
 use native.Mathlib.Omega.{arith}
 use lib.ListN.{length, take, drop, length-take}
 use Rattle.program.specs.Reply.{illFormed}
+use Rattle.program.specs.Lists.{between}
 use Rattle.text.specs.Line.{upTo, parts, behind, tab}
 use Rattle.text.specs.Name.{same}
 use Rattle.text.proofs.Cuts.{parts-from, part-within}
@@ -18,7 +19,6 @@ use Rattle.text_lines.specs.Keyword.{pred, func, clause, query, kindOf}
 use Rattle.cells.specs.Table.{Table, Read, wrong}
 use Rattle.declarations.specs.Declarations.{declaring, predLine, funcLine}
 use Rattle.text_lines.specs.Lines.{clauseLine, queryLine, lineOf, fieldsOf}
-use Rattle.cells.specs.Between.{between}
 use Rattle.declarations.specs.Held.{moreOf, Goes}
 use Rattle.text_lines.specs.Goal.{lastOf}
 

@@ -4,7 +4,8 @@ use native.Mathlib.Omega.{arith}
 use mathlib.Core.Path.{_≡_, ap, _∙_}
 use mathlib.Core.List.{_++_}
 use lib.ListN.{length, getD, replicate}
-use Rattle.table.specs.Table.{rowSize, tableWords}
+use Rattle.program.specs.Limits.{rowSize}
+use Rattle.table.specs.Table.{tableWords}
 use Rattle.table.proofs.Promise.{table-words-length}
 use Rattle.analysis.proofs.Replies.{zeros-behind}
 use Rattle.analysis.proofs.LastRows.{last-packed, last-table, last-many}

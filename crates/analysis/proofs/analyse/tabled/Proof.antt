@@ -49,7 +49,7 @@ rounds-requires c κs =
       room-for-notes = record { some = omega arith; few = omega arith };
       scratch = record { all-answers = refl; none-found = refl };
       none-kept = refl;
-      none-noted = refl;
+      none-answered = refl;
       room-most = rw (c .before .before .before .before .before .before .before .before .before .before .before .before .before .room-in .ensures) (room .0);
       room-there = rw (c .before .before .before .before .before .before .before .before .before .before .before .before .before .room-in .ensures) (room .1);
     }

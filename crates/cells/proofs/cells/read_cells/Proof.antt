@@ -4,10 +4,10 @@ use mathlib.Core.Path.{refl, _∙_, sym}
 use native.Mathlib.Omega.{arith}
 use borrow.Author.Needs.{needs}
 use lib.ListN.{length, drop}
+use Rattle.program.specs.Lists.{between}
 use Rattle.text.specs.Line.{upTo, tab}
 use Rattle.text.proofs.Cuts.{part-within}
 use Rattle.cells.specs.Cells.{lookOf}
-use Rattle.cells.specs.Between.{between}
 use Rattle.cells.specs.Room.{tableOf, rowOf}
 use Rattle.cells.proofs.Rows.{Turning, begins, rest-over, rest-wrong, said-on, rest-none, taken-wrong, as-wrong, as-right, complete-atoms}
 use Rattle.cells.proofs.cells.read_cells.Statement.{statement}

@@ -79,7 +79,7 @@ returns c =
 -- the rows for the body atoms behind the first are there
 past : (c : tie.Joined1) → (c .if1 .found ≡ replicate setWords 0) × (length (c .if1 .answers) ≡ 4096)
     × ((w : HeadAsked (c .before .before .before .before .before .before .before .before .before .before .before .before .before .before .before .args .words .now) (c .before .before .before .before .before .before .before .before .before .before .before .before .before .before .before .args .dir .now) (c .before .before .before .before .before .before .before .before .before .before .before .before .before .before .before .args .table .now) (c .before .before .before .before .before .before .before .before .before .before .before .before .before .before .before .args .heads .now) (c .before .before .before .before .before .before .before .before .before .before .before .before .before .before .before .args .at .since) (c .before .before .before .before .before .before .before .before .before .before .before .before .before .before .before .args .at .rows) (c .before .before .before .before .before .before .before .before .before .before .before .before .before .before .before .args .k)) → Past (c .before .before .before .before .before .before .before .before .before .before .before .before .before .before .before .args .words .now) (c .before .before .before .before .before .before .before .before .before .before .before .before .before .before .before .args .dir .now) (c .before .before .before .before .before .before .before .before .before .before .before .before .before .before .before .args .heads .now) (c .before .before .before .before .before .before .before .before .before .before .before .before .before .before .before .args .table .now) (c .before .before .before .before .before .before .before .before .before .before .before .before .before .before .before .args .buckets .now) (c .before .before .before .before .before .before .before .before .before .before .before .before .before .before .before .args .at .since) (c .before .before .before .before .before .before .before .before .before .before .before .before .before .before .before .args .at .rows) (c .before .before .before .before .before .before .before .before .before .before .before .before .before .before .before .args .at .number) (c .before .before .before .before .before .before .before .before .before .before .before .before .before .before .before .args .at .room) (c .before .before .before .before .before .before .before .before .before .before .before .before .before .before .before .args .n) (c .before .before .before .before .before .before .before .before .before .before .before .before .before .before .before .pre .2) (c .before .before .before .before .before .before .before .before .before .before .before .before .before .before .before .args .k) w (c .if1 .rows) (c .if1 .table) (c .if1 .buckets))
-    × KeepsAnswers (c .before .before .before .before .before .before .before .before .before .before .before .before .before .before .before .args .words .now) (c .before .before .before .before .before .before .before .before .before .before .before .before .before .before .before .args .dir .now) (c .if1 .table) (c .if1 .noted) (c .before .before .before .before .before .before .before .before .before .before .before .before .before .before .before .args .at .rows)
+    × KeepsAnswers (c .before .before .before .before .before .before .before .before .before .before .before .before .before .before .before .args .words .now) (c .before .before .before .before .before .before .before .before .before .before .before .before .before .before .before .args .dir .now) (c .if1 .table) (c .if1 .answered) (c .before .before .before .before .before .before .before .before .before .before .before .before .before .before .before .args .at .rows)
 past c =
     let s = c .before .before .before .before .before .before .before .before .before .before .before .before .before .before .before in
     let a = s .args in
@@ -103,7 +103,7 @@ end-clause-requires : tie.Need-end-clause-requires
 end-clause-requires c κs =
     let s = c .before .before .before .before .before .before .before .before .before .before .before .before .before .before .before .before .before .before .before .before .before .before in
     let w = s .pre .0 in
-    let (none-found, size, grown, noted) = past (c .before .before .before .before .before .before .before) in
+    let (none-found, size, grown, answered) = past (c .before .before .before .before .before .before .before) in
     let g = grown w in (
       stands-on _ _ _ _ _ _ _ _ _ _ (s .pre .2) _ w _ _ _ _ g,
       g .writable,
@@ -111,7 +111,7 @@ end-clause-requires c κs =
       record { all-answers = size; none-found = none-found },
       keeps-all _ _ _ (c .before .before .before .before .before .before .before .if1 .rows) (w .situation .setting)
           (step-keeps _ _ (s .args .at .number) _ _ _ _ _ _ _ _ _ _ (s .pre .2) (inl g) (g .writable .within) (s .pre .4 (w .situation .p) (w .situation .setting))),
-      noted,
+      answered,
       s .pre .6,
     )
 

@@ -16,15 +16,15 @@ use Rattle.clauses.proofs.clauses.middle_places.Statement.{statement}
 use Rattle.clauses.proofs.clauses.middle_places.Tie as tie
 
 abbrev Inv-loop : tie.InvT-loop
-Inv-loop words dir table₀ buckets₀ heads seen₀ answers₀ noted₀ n at first last room rows₀ j₀ table buckets seen answers noted rows j =
+Inv-loop words dir table₀ buckets₀ heads seen₀ answers₀ answered₀ n at first last room rows₀ j₀ table buckets seen answers answered rows j =
     (first ≤ j) × (j ≤ last) × (length table ≡ length table₀) × (length buckets ≡ length buckets₀) × (length seen ≡ length seen₀) × (length answers ≡ length answers₀)
     × (seen ≡ replicate setWords 0)
     × ((w : MiddlesAsked words dir table₀ heads (at .since) (at .rows) first last)
     → Grew (w .situation .p) (keysOf table₀ (at .rows)) (at .number) (at .room) n table₀ buckets₀ (PastPlaces (w .situation .p) (keysOf table₀ (at .since)) (keysOf table₀ (at .rows)) (w .k) (j - first)) rows table buckets)
-    × KeepsAnswers words dir table noted (at .rows)
+    × KeepsAnswers words dir table answered (at .rows)
 
 abbrev μ-loop : tie.MeasureT-loop
-μ-loop words dir table₀ buckets₀ heads seen₀ answers₀ noted₀ n at first last room rows₀ j₀ table buckets seen answers noted rows j = last - j
+μ-loop words dir table₀ buckets₀ heads seen₀ answers₀ answered₀ n at first last room rows₀ j₀ table buckets seen answers answered rows j = last - j
 
 loop-holds : tie.Need-loop-holds Inv-loop μ-loop
 loop-holds c = let s = c .before .before .before .before .before .before .before .before in

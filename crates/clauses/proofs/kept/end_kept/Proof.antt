@@ -9,7 +9,7 @@ use Rattle.directory.specs.Layout.{clauseVars}
 use Rattle.rows.specs.MaskSet.{setWords}
 use Rattle.rows.proofs.ClearedMarks.{marks-shifted}
 use Rattle.steps.specs.Situation.{HeadAsked}
-use Rattle.steps.specs.Heads.{HeadMark, Marked, FoundOn}
+use Rattle.steps.specs.Heads.{HeadMark, Collected, FoundOn}
 use Rattle.ends.specs.AtHead.{AtHead}
 use Rattle.ends.specs.Keeping.{knownOf}
 use Rattle.ends.proofs.ClauseRows.{clause-few, vars-few, asked-since}
@@ -64,7 +64,7 @@ new-marks-requires c κs = let s = c .before .before .before .before .before .be
 
 -- the marks of a row that is not known were in the set
 marks-found : (c : tie.Joined2) (w : HeadAsked (c .before .before .before .before .before .before .before .before .before .before .before .before .before .before .before .before .before .before .before .before .before .before .before .before .before .before .before .before .before .before .before .before .before .before .before .before .args .words .now) (c .before .before .before .before .before .before .before .before .before .before .before .before .before .before .before .before .before .before .before .before .before .before .before .before .before .before .before .before .before .before .before .before .before .before .before .before .args .dir .now) (c .before .before .before .before .before .before .before .before .before .before .before .before .before .before .before .before .before .before .before .before .before .before .before .before .before .before .before .before .before .before .before .before .before .before .before .before .args .table .now) (c .before .before .before .before .before .before .before .before .before .before .before .before .before .before .before .before .before .before .before .before .before .before .before .before .before .before .before .before .before .before .before .before .before .before .before .before .args .heads .now) (c .before .before .before .before .before .before .before .before .before .before .before .before .before .before .before .before .before .before .before .before .before .before .before .before .before .before .before .before .before .before .before .before .before .before .before .before .args .at .since) (c .before .before .before .before .before .before .before .before .before .before .before .before .before .before .before .before .before .before .before .before .before .before .before .before .before .before .before .before .before .before .before .before .before .before .before .before .args .at .rows) (c .before .before .before .before .before .before .before .before .before .before .before .before .before .before .before .before .before .before .before .before .before .before .before .before .before .before .before .before .before .before .before .before .before .before .before .before .args .k))
-    → Marked (HeadMark (w .situation .p) (c .before .before .before .before .before .before .before .before .before .before .before .before .before .before .before .before .before .before .before .before .before .before .before .before .before .before .before .before .before .before .before .before .before .before .before .before .args .table .now) (c .before .before .before .before .before .before .before .before .before .before .before .before .before .before .before .before .before .before .before .before .if1 .known) (c .before .before .before .before .before .before .before .before .before .before .before .before .before .before .before .before .before .before .before .before .before .before .before .before .before .before .before .before .before .before .before .before .before .before .before .before .args .at .rows) (c .before .before .before .before .before .before .before .before .before .before .before .before .before .before .before .before .before .before .before .before .before .before .before .before .before .before .before .before .before .before .before .before .before .before .before .before .args .k) (length (w .clause .c .body))) (replicate setWords 0) (c .before .before .before .before .before .before .before .before .before .before .before .before .before .before .head-marks .last .1 .1 .1 .1 .1 .1 .1 .1 .0)
+    → Collected (HeadMark (w .situation .p) (c .before .before .before .before .before .before .before .before .before .before .before .before .before .before .before .before .before .before .before .before .before .before .before .before .before .before .before .before .before .before .before .before .before .before .before .before .args .table .now) (c .before .before .before .before .before .before .before .before .before .before .before .before .before .before .before .before .before .before .before .before .if1 .known) (c .before .before .before .before .before .before .before .before .before .before .before .before .before .before .before .before .before .before .before .before .before .before .before .before .before .before .before .before .before .before .before .before .before .before .before .before .args .at .rows) (c .before .before .before .before .before .before .before .before .before .before .before .before .before .before .before .before .before .before .before .before .before .before .before .before .before .before .before .before .before .before .before .before .before .before .before .before .args .k) (length (w .clause .c .body))) (replicate setWords 0) (c .before .before .before .before .before .before .before .before .before .before .before .before .before .before .head-marks .last .1 .1 .1 .1 .1 .1 .1 .1 .0)
 marks-found c w = marked-empty _ _ _ (c .before .before .before .before .before .before .before .before .before .before .before .before .before .before .before .before .before .before .before .before .before .before .before .before .before .before .before .before .before .before .before .before .before .before .before .before .pre .3 .none-found) (c .before .before .before .before .before .before .before .before .before .before .before .before .before .before .head-marks .ensures .1 (asked-since _ _ _ _ _ _ _ w _ (omega (arith, early (c .before .before .before .before .before .before .before .before .before .before .before .before .before .before .before .before .before .before .before .before) .0, w .situation .chains .new))) .0)
 
 -- a mask of the head's variables

@@ -12,7 +12,7 @@ use Rattle.rows.specs.MaskSet.{setWords}
 use Rattle.rows.proofs.ClearedMarks.{marks-shifted, cleared-empty}
 use Rattle.steps.specs.Situation.{HeadAsked}
 use Rattle.steps.specs.Since.{SinceIn}
-use Rattle.steps.specs.Heads.{HeadMark, Marked, FoundOn}
+use Rattle.steps.specs.Heads.{HeadMark, Collected, FoundOn}
 use Rattle.steps.proofs.Stepping.{stepped-must}
 use Rattle.ends.specs.AtHead.{AtHead}
 use Rattle.ends.proofs.ClauseRows.{clause-few, vars-few, head-there, head-predicate, predicate-asked, asked-since}
@@ -83,7 +83,7 @@ slice-aggregate-at-head c = search needs
 
 -- the marks that are collected are in the set
 new-marks : (c : tie.Joined2) (w : HeadAsked (c .before .before .before .before .before .before .before .before .before .before .before .before .before .before .before .before .before .before .before .before .before .before .before .before .before .before .before .before .before .before .args .words .now) (c .before .before .before .before .before .before .before .before .before .before .before .before .before .before .before .before .before .before .before .before .before .before .before .before .before .before .before .before .before .before .args .dir .now) (c .before .before .before .before .before .before .before .before .before .before .before .before .before .before .before .before .before .before .before .before .before .before .before .before .before .before .before .before .before .before .args .table .now) (c .before .before .before .before .before .before .before .before .before .before .before .before .before .before .before .before .before .before .before .before .before .before .before .before .before .before .before .before .before .before .args .heads .now) (c .before .before .before .before .before .before .before .before .before .before .before .before .before .before .before .before .before .before .before .before .before .before .before .before .before .before .before .before .before .before .args .at .since) (c .before .before .before .before .before .before .before .before .before .before .before .before .before .before .before .before .before .before .before .before .before .before .before .before .before .before .before .before .before .before .args .at .rows) (c .before .before .before .before .before .before .before .before .before .before .before .before .before .before .before .before .before .before .before .before .before .before .before .before .before .before .before .before .before .before .args .k))
-    → Marked (HeadMark (w .situation .p) (c .before .before .before .before .before .before .before .before .before .before .before .before .before .before .before .before .before .before .before .before .before .before .before .before .before .before .before .before .before .before .args .table .now) (c .before .before .before .before .before .before .before .before .before .before .before .before .before .before .before .if1 .since) (c .before .before .before .before .before .before .before .before .before .before .before .before .before .before .before .before .before .before .before .before .before .before .before .before .before .before .before .before .before .before .args .at .rows) (c .before .before .before .before .before .before .before .before .before .before .before .before .before .before .before .before .before .before .before .before .before .before .before .before .before .before .before .before .before .before .args .k) (length (w .clause .c .body))) (replicate setWords 0) (c .before .before .before .before .before .before .before .before .before .head-marks .last .1 .1 .1 .1 .1 .1 .1 .1 .0)
+    → Collected (HeadMark (w .situation .p) (c .before .before .before .before .before .before .before .before .before .before .before .before .before .before .before .before .before .before .before .before .before .before .before .before .before .before .before .before .before .before .args .table .now) (c .before .before .before .before .before .before .before .before .before .before .before .before .before .before .before .if1 .since) (c .before .before .before .before .before .before .before .before .before .before .before .before .before .before .before .before .before .before .before .before .before .before .before .before .before .before .before .before .before .before .args .at .rows) (c .before .before .before .before .before .before .before .before .before .before .before .before .before .before .before .before .before .before .before .before .before .before .before .before .before .before .before .before .before .before .args .k) (length (w .clause .c .body))) (replicate setWords 0) (c .before .before .before .before .before .before .before .before .before .head-marks .last .1 .1 .1 .1 .1 .1 .1 .1 .0)
 new-marks c w = marked-empty _ _ _ (c .before .before .before .before .before .before .before .before .before .before .before .before .before .before .before .before .before .before .before .before .before .before .before .before .before .before .before .before .before .before .pre .3 .none-found) (c .before .before .before .before .before .before .before .before .before .head-marks .ensures .1 (asked-since _ _ _ _ _ _ _ w _ (omega (arith, early (c .before .before .before .before .before .before .before .before .before .before .before .before .before .before .before) .0, w .situation .chains .new))) .0)
 
 -- the set has marks that result

@@ -24,7 +24,7 @@ shared-slice-read-result : tie.Need-shared-slice-read-result
 shared-slice-read-result c = let a = call-shape (c .before .before .before .before .before .before .before .before .before .before .pre .0) _ (c .before .before .before .wide .ensures .0 ∙ c .before .before .before .before .slot-at .ensures) (c .before .before .if1 .taken) in omega (arith, c .before .predicate-of .ensures a, shape-declared (a .setting) (a .nth-shape), c .before .before .before .before .before .before .before .before .before .before .pre .2)
 
 returns : tie.Need-returns
-returns c = λ w index k h. call-concerns w _ (c .before .before .before .wide .ensures .0 ∙ c .before .before .before .before .slot-at .ensures) (c .before .before .before .before .before .before .before .before .before .before .args .headed .now) _ (c .before .predicate-of .ensures) (c .before .before .if1 .taken) (index .heads-noted) k h
+returns c = λ w index k h. call-concerns w _ (c .before .before .before .wide .ensures .0 ∙ c .before .before .before .before .slot-at .ensures) (c .before .before .before .before .before .before .before .before .before .before .args .headed .now) _ (c .before .predicate-of .ensures) (c .before .before .if1 .taken) (index .heads-entered) k h
 
 clause-of-requires : tie.Need-clause-of-requires
 clause-of-requires c κs = record { p = c .before .before .before .before .before .before .before .before .before .pre .0 .p; setting = c .before .before .before .before .before .before .before .before .before .pre .0 .setting; body = cont-body (c .before .before .before .before .before .before .before .before .before .pre .0 .setting) (c .before .before .before .before .before .before .before .before .before .pre .0 .row) (c .before .before .before .before .before .before .before .before .before .pre .0 .regular) _ ((c .before .before .wide .ensures .0 ∙ c .before .before .before .slot-at .ensures) ∙ c .before .before .before .before .before .before .before .before .before .pre .0 .slot) (omega (arith, c .before .if1 .left)) (c .if2 .taken) }
@@ -49,7 +49,7 @@ shared-slice-read-result-2 : tie.Need-shared-slice-read-result-2
 shared-slice-read-result-2 c = let a = solution-shape (c .before .before .before .before .before .before .before .before .before .before .before .pre .0) _ (c .before .before .before .before .wide .ensures .0 ∙ c .before .before .before .before .before .slot-at .ensures) (omega (arith, c .before .before .if2 .left)) in omega (arith, c .before .predicate-of2 .ensures a, shape-declared (a .setting) (a .nth-shape), c .before .before .before .before .before .before .before .before .before .before .before .pre .3)
 
 returns-3 : tie.Need-returns-3
-returns-3 c = λ w index k h. solution-concerns w _ (c .before .before .before .before .wide .ensures .0 ∙ c .before .before .before .before .before .slot-at .ensures) (c .before .before .before .before .before .before .before .before .before .before .before .args .bodied .now) _ (c .before .predicate-of2 .ensures) (omega (arith, c .before .before .if2 .left)) (index .bodies-noted) k h
+returns-3 c = λ w index k h. solution-concerns w _ (c .before .before .before .before .wide .ensures .0 ∙ c .before .before .before .before .before .slot-at .ensures) (c .before .before .before .before .before .before .before .before .before .before .before .args .bodied .now) _ (c .before .predicate-of2 .ensures) (omega (arith, c .before .before .if2 .left)) (index .bodies-entered) k h
 
 pub concerned-spec : {M : Type 1} → statement M
 concerned-spec =

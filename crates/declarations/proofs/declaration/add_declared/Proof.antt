@@ -3,8 +3,8 @@ use Prim.Native.Nat.{_+_}
 use mathlib.Core.Path.{sym, _∙_}
 use native.Mathlib.Omega.{arith}
 use lib.ListN.{length}
+use Rattle.program.specs.Lists.{between}
 use Rattle.declarations.specs.Declarations.{declaring, symbolOf}
-use Rattle.cells.specs.Between.{between}
 use Rattle.declarations.proofs.Symbols.{symbolOf-kept}
 use Rattle.declarations.proofs.DeclaredLines.{lined-symbol, lined-fault}
 use borrow.Author.Needs.{needs}

@@ -4,8 +4,8 @@ use mathlib.Core.Path.{_≡_, refl, ap, _∙_}
 use mathlib.Core.List.{List, [], _∷_}
 use native.Mathlib.Omega.{arith}
 use lib.ListN.{length, drop}
+use Rattle.program.specs.Lists.{between}
 use Rattle.text.specs.Line.{upTo, tab}
-use Rattle.cells.specs.Between.{between}
 use Rattle.cells.proofs.FieldCuts.{field-within, behind-next, behind-none}
 use borrow.Author.Needs.{needs}
 use Rattle.declarations.proofs.fields.two_fields.Statement.{statement}

@@ -4,7 +4,7 @@ use Prim.Native.Nat.{_-_}
 use native.Mathlib.Omega.{arith}
 use mathlib.Core.Path.{sym, _∙_}
 use mathlib.Core.Logic.{⊎-elim}
-use Rattle.rows.specs.Rows.{maxRows}
+use Rattle.program.specs.Limits.{maxRows}
 use Rattle.joining.proofs.Settling.{Settled, settled-none, place-there, settled-there, settled-new, settled-all}
 use Rattle.joining.proofs.answers.settle.Statement.{statement}
 use Rattle.joining.proofs.answers.settle.Tie as tie

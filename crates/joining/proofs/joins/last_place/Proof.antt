@@ -5,7 +5,7 @@ use mathlib.Core.Path.{_≡_, sym, ap, subst, _∙_}
 use mathlib.Core.List.{List}
 use lib.ListN.{length, length-replicate}
 use Rattle.rows.specs.MaskSet.{setWords}
-use Rattle.steps.specs.Heads.{HeadMark, Marked}
+use Rattle.steps.specs.Heads.{HeadMark, Collected}
 use Rattle.steps.proofs.MarkedSets.{marked-none}
 use Rattle.table.specs.Keys.{firstCont}
 use Rattle.joining.proofs.Offsets.{offset-fits, offset-bytes-fit}
@@ -14,8 +14,8 @@ use Rattle.joining.proofs.joins.last_place.Statement.{statement}
 use Rattle.joining.proofs.joins.last_place.Tie as tie
 
 -- the set is as it was before the answers were listed
-marked-from : {P : ℕ → Type 0} (found before after : List ℕ) → before ≡ found → Marked P before after → Marked P found after
-marked-from {P} found before after e = subst (λ (l : List ℕ). Marked P l after) e
+marked-from : {P : ℕ → Type 0} (found before after : List ℕ) → before ≡ found → Collected P before after → Collected P found after
+marked-from {P} found before after e = subst (λ (l : List ℕ). Collected P l after) e
 
 add-wide : tie.Need-add-wide
 add-wide c = let m = c .before .before .before .before .before .before .before .pre .0 in offset-fits firstCont (slot-there (m .situation) (m .body) .1) tt
@@ -58,7 +58,7 @@ returns-2 c =
           let a = rw (c .before .before .before .before .before .before .before .before .before .before .before .before .wide .ensures .0) at (listed .3 w b) in
           let none : (q : ℕ) → HeadMark (w .p) (c .before .before .before .before .before .before .before .before .before .before .before .before .before .before .before .before .before .before .before .before .before .args .table .now) (c .before .before .before .before .before .before .before .before .before .before .before .before .before .before .before .before .before .before .before .before .before .args .since) (c .before .before .before .before .before .before .before .before .before .before .before .before .before .before .before .before .before .before .before .before .before .args .before) (b .k) (suc (b .i)) q → ⊥ =
           λ q h. no-answer w b _ _ _ (listed .1) a (c .if2 .taken) (h .N) (h .reached) in (
-            subst (λ (found : List ℕ). Marked (HeadMark (w .p) (c .before .before .before .before .before .before .before .before .before .before .before .before .before .before .before .before .before .before .before .before .before .args .table .now) (c .before .before .before .before .before .before .before .before .before .before .before .before .before .before .before .before .before .before .before .before .before .args .since) (c .before .before .before .before .before .before .before .before .before .before .before .before .before .before .before .before .before .before .before .before .before .args .before) (b .k) (suc (b .i))) (c .before .before .before .before .before .before .before .before .before .before .before .before .before .before .before .before .before .before .before .before .before .args .found .now) found)
+            subst (λ (found : List ℕ). Collected (HeadMark (w .p) (c .before .before .before .before .before .before .before .before .before .before .before .before .before .before .before .before .before .before .before .before .before .args .table .now) (c .before .before .before .before .before .before .before .before .before .before .before .before .before .before .before .before .before .before .before .before .before .args .since) (c .before .before .before .before .before .before .before .before .before .before .before .before .before .before .before .before .before .before .before .before .before .args .before) (b .k) (suc (b .i))) (c .before .before .before .before .before .before .before .before .before .before .before .before .before .before .before .before .before .before .before .before .before .args .found .now) found)
                 (c .before .before .before .before .before .before .before .before .before .before .before .before .before .before .before .before .before .before .before .before .before .pre .1 ∙ sym (listed .0)) (marked-none _ (ap length (c .before .before .before .before .before .before .before .before .before .before .before .before .before .before .before .before .before .before .before .before .before .pre .1) ∙ length-replicate {A = ℕ} setWords 0) none),
             λ q h. absurd (none q h),
           ),

@@ -4,7 +4,7 @@ use Prim.Native.Nat.{_-_, _≤_}
 use native.Mathlib.Omega.{arith}
 use borrow.Author.Needs.{needs}
 use mathlib.Core.Path.{_≡_, _∙_}
-use Rattle.steps.specs.Heads.{Marked}
+use Rattle.steps.specs.Heads.{Collected}
 use Rattle.joining.specs.Joined.{JoinedWith, KeptOf}
 use Rattle.steps.proofs.MarkedSets.{marked-none}
 use Rattle.joining.proofs.Joining.{joined-none}
@@ -13,7 +13,7 @@ use Rattle.joining.proofs.joins.mark_joined.Statement.{statement}
 use Rattle.joining.proofs.joins.mark_joined.Tie as tie
 
 abbrev Inv-loop : tie.InvT-loop
-Inv-loop mask answers upto there found₀ i₀ found i = (i ≤ upto) × Marked (KeptOf there (JoinedWith mask answers i)) found₀ found
+Inv-loop mask answers upto there found₀ i₀ found i = (i ≤ upto) × Collected (KeptOf there (JoinedWith mask answers i)) found₀ found
 
 abbrev μ-loop : tie.MeasureT-loop
 μ-loop mask answers upto there found₀ i₀ found i = upto - i

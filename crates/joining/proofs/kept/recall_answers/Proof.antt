@@ -1,7 +1,6 @@
 -- `recall_answers` meets its contract: the kept masks below q are listed. The measure is how many masks are left. Assumes nothing.
-use Prim.Native.Nat.{_-_, _*_, _%_, _^_, _≤_}
+use Prim.Native.Nat.{_-_, _^_, _≤_}
 use native.Mathlib.Omega.{arith}
-use borrow.Author.Needs.{needs}
 use mathlib.Core.Path.{_≡_, sym, _∙_}
 use mathlib.Core.Logic.{⊎-elim}
 use Rattle.joining.specs.Answers.{Found}
@@ -12,11 +11,11 @@ use Rattle.joining.proofs.kept.recall_answers.Statement.{statement}
 use Rattle.joining.proofs.kept.recall_answers.Tie as tie
 
 abbrev Inv-loop : tie.InvT-loop
-Inv-loop order count noted j seen₀ answers₀ upto masks all₀ q₀ seen answers all q =
-    (masks ≡ 2 ^ count) × (q ≤ masks) × Found (Recalled order count noted j q) seen answers upto all answers₀
+Inv-loop order count answered j seen₀ answers₀ upto masks all₀ q₀ seen answers all q =
+    (masks ≡ 2 ^ count) × (q ≤ masks) × Found (Recalled order count answered j q) seen answers upto all answers₀
 
 abbrev μ-loop : tie.MeasureT-loop
-μ-loop order count noted j seen₀ answers₀ upto masks all₀ q₀ seen answers all q = masks - q
+μ-loop order count answered j seen₀ answers₀ upto masks all₀ q₀ seen answers all q = masks - q
 
 shl-masks : tie.Need-shl-masks Inv-loop μ-loop
 shl-masks c = omega (arith, c .before .before .before .pre .kept .few)

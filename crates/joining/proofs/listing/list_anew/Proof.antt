@@ -3,7 +3,7 @@
 use native.Mathlib.Omega.{arith}
 use borrow.Author.Needs.{needs}
 use mathlib.Core.Logic.{⊎-elim}
-use Rattle.joining.proofs.PlaceAnswers.{listing-none, answered}
+use Rattle.joining.proofs.PlaceAnswers.{listing-none, all-answered}
 use Rattle.joining.proofs.listing.list_anew.Statement.{statement}
 use Rattle.joining.proofs.listing.list_anew.Tie as tie
 
@@ -41,7 +41,7 @@ returns c =
     let found = settled .settle .ensures in (
       c .before .before .forget .ensures,
       record { few = found .more; most = omega (arith, found .listing .within, found .listing .list-size) },
-      λ w b. answered (w .p) _ (b .A) _ _ _ (to .answers-to .ensures w b) found (w .chains .new)
+      λ w b. all-answered (w .p) _ (b .A) _ _ _ (to .answers-to .ensures w b) found (w .chains .new)
           (⊎-elim (λ v. omega (arith, v .1)) (λ v. omega (arith, v .1)) (to .before .before .before .if1 .came)) _
           (λ l. ⊎-elim (λ v. v .1) (λ v. absurd (omega (arith, v .0 .left))) (to .before .before .before .if1 .came)),
     )

@@ -8,7 +8,7 @@ use mathlib.Core.Logic.{⊎-elim}
 use lib.ListN.{length, length-set}
 use Rattle.joining.specs.KeptAnswers.{answeredOf}
 use Rattle.joining.proofs.PlaceAnswers.{answers-as, answered-as, listing-none, listing-within, since-known}
-use Rattle.joining.proofs.KeptPlaces.{answer-own, keeps-answers, keeping-noted, known-noted, answered-new, answered-recalled}
+use Rattle.joining.proofs.KeptPlaces.{answer-own, keeps-answers, keeping-answered, known-answered, answered-new, answered-recalled}
 use Rattle.joining.proofs.listing.list_kept.Statement.{statement}
 use Rattle.joining.proofs.listing.list_kept.Tie as tie
 
@@ -34,8 +34,8 @@ settle-requires c κs =
     let parted = c .before .before .before .before .before .before .answers-to .ensures (c .before .before .before .before .before .before .before .before .before .before .before .before .before .before .before .before .before .before .before .pre .0 .situation) (c .before .before .before .before .before .before .before .before .before .before .before .before .before .before .before .before .before .before .before .pre .0 .body) in
     record { listing = parted .front .listing; room = parted .room; most = parted .most }
 
-note-answers-requires : tie.Need-note-answers-requires
-note-answers-requires c κs =
+keep-answers-requires : tie.Need-keep-answers-requires
+keep-answers-requires c κs =
     let pre = c .before .before .before .before .before .before .before .before .before .before .before .before .before .before .before .before .before .before .before .before .before .before .before .before .before .before .pre in
     record {
       A = pre .0 .body .A;
@@ -47,11 +47,11 @@ note-answers-requires c κs =
 narrow-requires : tie.Need-narrow-requires
 narrow-requires c κs = omega (arith, c .before .before .before .before .before .before .before .before .before .before .before .before .before .before .before .before .before .before .before .before .before .before .before .before .before .before .before .before .before .pre .0 .situation .chains .most)
 
-mul-noted : tie.Need-mul-noted
-mul-noted c = omega (arith, c .before .before .before .before .before .before .before .before .before .before .before .before .before .before .before .before .before .before .before .before .before .before .before .before .before .before .before .before .before .before .pre .0 .kept (c .before .before .before .before .before .before .before .before .before .before .before .before .before .before .before .before .before .before .before .before .before .before .before .before .before .before .before .before .before .before .pre .0 .situation) (c .before .before .before .before .before .before .before .before .before .before .before .before .before .before .before .before .before .before .before .before .before .before .before .before .before .before .before .before .before .before .pre .0 .body) .near)
+mul-answered : tie.Need-mul-answered
+mul-answered c = omega (arith, c .before .before .before .before .before .before .before .before .before .before .before .before .before .before .before .before .before .before .before .before .before .before .before .before .before .before .before .before .before .before .pre .0 .kept (c .before .before .before .before .before .before .before .before .before .before .before .before .before .before .before .before .before .before .before .before .before .before .before .before .before .before .before .before .before .before .pre .0 .situation) (c .before .before .before .before .before .before .before .before .before .before .before .before .before .before .before .before .before .before .before .before .before .before .before .before .before .before .before .before .before .before .pre .0 .body) .near)
 
-slice-write-noted : tie.Need-slice-write-noted
-slice-write-noted c = omega (arith, c .before .before .before .before .before .before .before .before .before .before .before .before .before .before .before .before .before .before .before .before .before .before .before .before .before .before .before .before .before .before .pre .0 .kept (c .before .before .before .before .before .before .before .before .before .before .before .before .before .before .before .before .before .before .before .before .before .before .before .before .before .before .before .before .before .before .pre .0 .situation) (c .before .before .before .before .before .before .before .before .before .before .before .before .before .before .before .before .before .before .before .before .before .before .before .before .before .before .before .before .before .before .pre .0 .body) .near, c .before .before .before .note-answers .ensures .size, c .before .before .before .before .before .before .before .before .before .before .before .before .before .before .before .before .before .before .before .before .before .before .before .before .before .before .before .before .before .before .pre .3 (c .before .before .before .before .before .before .before .before .before .before .before .before .before .before .before .before .before .before .before .before .before .before .before .before .before .before .before .before .before .before .pre .0 .situation .p) (c .before .before .before .before .before .before .before .before .before .before .before .before .before .before .before .before .before .before .before .before .before .before .before .before .before .before .before .before .before .before .pre .0 .situation .setting) .size)
+slice-write-answered : tie.Need-slice-write-answered
+slice-write-answered c = omega (arith, c .before .before .before .before .before .before .before .before .before .before .before .before .before .before .before .before .before .before .before .before .before .before .before .before .before .before .before .before .before .before .pre .0 .kept (c .before .before .before .before .before .before .before .before .before .before .before .before .before .before .before .before .before .before .before .before .before .before .before .before .before .before .before .before .before .before .pre .0 .situation) (c .before .before .before .before .before .before .before .before .before .before .before .before .before .before .before .before .before .before .before .before .before .before .before .before .before .before .before .before .before .before .pre .0 .body) .near, c .before .before .before .keep-answers .ensures .size, c .before .before .before .before .before .before .before .before .before .before .before .before .before .before .before .before .before .before .before .before .before .before .before .before .before .before .before .before .before .before .pre .3 (c .before .before .before .before .before .before .before .before .before .before .before .before .before .before .before .before .before .before .before .before .before .before .before .before .before .before .before .before .before .before .pre .0 .situation .p) (c .before .before .before .before .before .before .before .before .before .before .before .before .before .before .before .before .before .before .before .before .before .before .before .before .before .before .before .before .before .before .pre .0 .situation .setting) .size)
 
 recall-answers-requires : tie.Need-recall-answers-requires
 recall-answers-requires c κs =
@@ -65,7 +65,7 @@ recall-answers-requires c κs =
       kept = pre .0 .kept w b;
       listing = found .listing;
       own = λ N m. answer-own (w .p) (c .before .before .before .before .before .before .before .before .before .before .before .before .before .before .before .before .before .before .before .before .before .before .before .before .before .before .before .before .before .before .before .before .before .before .args .table .now) (b .A) N (since-known (w .p) (c .before .before .before .before .before .before .before .before .before .before .before .before .before .before .before .before .before .before .before .before .before .before .before .before .before .before .before .before .before .before .before .before .before .before .args .table .now) (b .A) _ _ _ (c .before .before .before .before .before .before .before .before .before .before .before .before .before .before .before .before .before .before .before .before .before .answers-to .ensures w b) found (w .chains .new) ordered .are N .0 m);
-      size = rw length-set (c .before .before .before .before .before .before .before .note-answers .ensures .size ∙ pre .3 (w .p) (w .setting) .size);
+      size = rw length-set (c .before .before .before .before .before .before .before .keep-answers .ensures .size ∙ pre .3 (w .p) (w .setting) .size);
     }
 
 forget-requires : tie.Need-forget-requires
@@ -78,14 +78,14 @@ same-length-2 : tie.Need-same-length-2
 same-length-2 c = ⊎-elim (λ v. rw (v .10) (v .4 .ensures .listing .list-size ∙ sym (c .before .before .before .before .before .before .before .before .before .before .before .before .before .before .before .before .before .before .before .before .before .before .before .before .before .before .before .before .before .before .before .before .before .before .before .before .pre .2))) (λ v. rw (v .2) (c .before .before .before .before .before .before .before .before .before .before .before .before .before .before .before .before .settle .ensures .listing .list-size ∙ sym (c .before .before .before .before .before .before .before .before .before .before .before .before .before .before .before .before .before .before .before .before .before .before .before .before .before .before .before .before .before .before .before .before .before .before .before .before .pre .2))) (c .before .before .before .before .before .if2 .came)
 
 same-length-3 : tie.Need-same-length-3
-same-length-3 c = rw length-set (c .before .before .before .before .before .before .before .before .before .note-answers .kept .1 .1 .1 .1 .1 .0)
+same-length-3 c = rw length-set (c .before .before .before .before .before .before .before .before .before .keep-answers .kept .1 .1 .1 .1 .1 .0)
 
 returns : tie.Need-returns
 returns c =
     let pre = c .before .before .before .before .before .before .before .before .before .before .before .before .before .before .before .before .before .before .before .before .before .before .before .before .before .before .before .before .before .before .before .before .before .before .before .before .pre in
     let found = c .before .before .before .before .before .before .before .before .before .before .before .before .before .before .before .before .settle .ensures in
     let ordered : c .before .before .before .before .before .before .before .before .before .before .before .before .before .before .before .before .before .before .before .before .before .before .before .before .before .before .if1 .known ≤ c .before .before .before .before .before .before .before .before .before .before .before .before .before .before .before .before .before .before .before .before .before .before .before .before .before .before .before .before .before .before .before .before .before .before .before .before .args .since = ⊎-elim (λ v. le-of-eq (v .1)) (λ v. le-trans (le-of-eq (v .1)) (v .0 .left)) (c .before .before .before .before .before .before .before .before .before .before .before .before .before .before .before .before .before .before .before .before .before .before .before .before .before .before .if1 .came) in
-    let early : c .before .before .before .before .before .before .before .before .before .before .before .before .before .before .before .before .before .before .before .before .before .before .before .before .before .before .if1 .known ≤ answeredOf (c .before .before .before .before .before .before .before .before .before .before .before .before .before .before .before .before .before .before .before .before .before .before .before .before .before .before .before .before .before .before .before .before .before .before .before .before .args .noted .now) (c .before .before .before .before .before .before .before .before .before .before .before .before .before .before .before .before .before .before .before .before .before .before .before .before .before .before .before .before .before .before .before .before .before .before .before .before .args .j) = ⊎-elim (λ v. le-trans (le-of-eq (v .1)) (le-trans (le-of-lt (v .0 .taken)) (le-of-eq (c .before .before .before .before .before .before .before .before .before .before .before .before .before .before .before .before .before .before .before .before .before .before .before .before .before .before .before .wide .ensures .0)))) (λ v. le-of-eq (v .1 ∙ c .before .before .before .before .before .before .before .before .before .before .before .before .before .before .before .before .before .before .before .before .before .before .before .before .before .before .before .wide .ensures .0)) (c .before .before .before .before .before .before .before .before .before .before .before .before .before .before .before .before .before .before .before .before .before .before .before .before .before .before .if1 .came) in (
+    let early : c .before .before .before .before .before .before .before .before .before .before .before .before .before .before .before .before .before .before .before .before .before .before .before .before .before .before .if1 .known ≤ answeredOf (c .before .before .before .before .before .before .before .before .before .before .before .before .before .before .before .before .before .before .before .before .before .before .before .before .before .before .before .before .before .before .before .before .before .before .before .before .args .answered .now) (c .before .before .before .before .before .before .before .before .before .before .before .before .before .before .before .before .before .before .before .before .before .before .before .before .before .before .before .before .before .before .before .before .before .before .before .before .args .j) = ⊎-elim (λ v. le-trans (le-of-eq (v .1)) (le-trans (le-of-lt (v .0 .taken)) (le-of-eq (c .before .before .before .before .before .before .before .before .before .before .before .before .before .before .before .before .before .before .before .before .before .before .before .before .before .before .before .wide .ensures .0)))) (λ v. le-of-eq (v .1 ∙ c .before .before .before .before .before .before .before .before .before .before .before .before .before .before .before .before .before .before .before .before .before .before .before .before .before .before .before .wide .ensures .0)) (c .before .before .before .before .before .before .before .before .before .before .before .before .before .before .before .before .before .before .before .before .before .before .before .before .before .before .if1 .came) in (
       c .before .before .forget .ensures,
       ⊎-elim
           (λ v. answers-as (v .10) (v .11) (record { few = le-trans (found .more) (v .4 .ensures .more); most = listing-within (v .4 .ensures .listing) }))
@@ -94,14 +94,14 @@ returns c =
       let w = pre .0 .situation in
           let b = pre .0 .body in
           keeps-answers _ _ _ (w .setting)
-          (keeping-noted w b (pre .0 .kept w b) _ _ _ _ _ _ (pre .3 (w .p) (w .setting)) early (since-known (w .p) (c .before .before .before .before .before .before .before .before .before .before .before .before .before .before .before .before .before .before .before .before .before .before .before .before .before .before .before .before .before .before .before .before .before .before .before .before .args .table .now) (b .A) _ _ _ (c .before .before .before .before .before .before .before .before .before .before .before .before .before .before .before .before .before .before .before .before .before .before .before .answers-to .ensures w b) found (w .chains .new) ordered) (c .before .before .before .before .before .before .before .before .before .note-answers .ensures) _ (c .before .before .before .before .before .before .narrow .ensures)),
+          (keeping-answered w b (pre .0 .kept w b) _ _ _ _ _ _ (pre .3 (w .p) (w .setting)) early (since-known (w .p) (c .before .before .before .before .before .before .before .before .before .before .before .before .before .before .before .before .before .before .before .before .before .before .before .before .before .before .before .before .before .before .before .before .before .before .before .before .args .table .now) (b .A) _ _ _ (c .before .before .before .before .before .before .before .before .before .before .before .before .before .before .before .before .before .before .before .before .before .before .before .answers-to .ensures w b) found (w .chains .new) ordered) (c .before .before .before .before .before .before .before .before .before .keep-answers .ensures) _ (c .before .before .before .before .before .before .narrow .ensures)),
       λ w b.
           let kept = pre .0 .kept w b in
           let listed = since-known (w .p) (c .before .before .before .before .before .before .before .before .before .before .before .before .before .before .before .before .before .before .before .before .before .before .before .before .before .before .before .before .before .before .before .before .before .before .before .before .args .table .now) (b .A) _ _ _ (c .before .before .before .before .before .before .before .before .before .before .before .before .before .before .before .before .before .before .before .before .before .before .before .answers-to .ensures w b) found (w .chains .new) ordered in
           ⊎-elim
           (λ v. answered-as (v .10) (v .11) (answered-recalled w b kept _ _ _ _ _ listed _
-          (keeping-noted w b kept _ _ _ _ _ _ (pre .3 (w .p) (w .setting)) early listed (c .before .before .before .before .before .before .before .before .before .note-answers .ensures) _ (c .before .before .before .before .before .before .narrow .ensures))
-          (known-noted w b kept _ _ _ _ _ _ (pre .3 (w .p) (w .setting)) early listed (c .before .before .before .before .before .before .before .before .before .note-answers .ensures) _ (c .before .before .before .before .before .before .narrow .ensures))
+          (keeping-answered w b kept _ _ _ _ _ _ (pre .3 (w .p) (w .setting)) early listed (c .before .before .before .before .before .before .before .before .before .keep-answers .ensures) _ (c .before .before .before .before .before .before .narrow .ensures))
+          (known-answered w b kept _ _ _ _ _ _ (pre .3 (w .p) (w .setting)) early listed (c .before .before .before .before .before .before .before .before .before .keep-answers .ensures) _ (c .before .before .before .before .before .before .narrow .ensures))
           (v .4 .ensures)))
           (λ v. answered-as (v .2) (v .3) (answered-new w b kept _ _ _ _ _ listed (v .0 .left)))
           (c .before .before .before .before .before .if2 .came),
@@ -117,10 +117,10 @@ list-kept-spec =
     wide-requires
     answers-to-requires
     settle-requires
-    note-answers-requires
+    keep-answers-requires
     narrow-requires
-    mul-noted
-    slice-write-noted
+    mul-answered
+    slice-write-answered
     recall-answers-requires
     forget-requires
     same-length

@@ -22,16 +22,16 @@ use Rattle.rounds.proofs.rounds.round.Statement.{statement}
 use Rattle.rounds.proofs.rounds.round.Tie as tie
 
 abbrev Inv-loop : tie.InvT-loop
-Inv-loop words dir table₀ buckets₀ heads unifiers₀ answers₀ found₀ kept₀ noted₀ headed bodied at room clauses concerns rows₀ k₀ table buckets unifiers answers found kept noted rows k =
+Inv-loop words dir table₀ buckets₀ heads unifiers₀ answers₀ found₀ kept₀ answered₀ headed bodied at room clauses concerns rows₀ k₀ table buckets unifiers answers found kept answered rows k =
     (k ≤ clauses) × (length table ≡ length table₀) × (length buckets ≡ length buckets₀) × (length unifiers ≡ length unifiers₀) × (length answers ≡ length answers₀) × (length found ≡ length found₀)
     × Scratch answers found × (clauses ≡ getD dir clauseCount 0)
     × ((w : Situation words dir table₀ heads (at .since) (at .rows))
     → Grew (w .p) (keysOf table₀ (at .rows)) (at .number) (at .room) (at .rows) table₀ buckets₀
     (Below (λ k. Keyed (w .p) (NewIn modes (w .p) (RowsIn (w .p) (keysOf table₀ (at .since))) (RowsIn (w .p) (keysOf table₀ (at .rows))) k)) k) rows table buckets)
-    × (length kept ≡ length kept₀) × Keeps words dir table kept (at .rows) rows × KeepsAnswers words dir table noted (at .rows)
+    × (length kept ≡ length kept₀) × Keeps words dir table kept (at .rows) rows × KeepsAnswers words dir table answered (at .rows)
 
 abbrev μ-loop : tie.MeasureT-loop
-μ-loop words dir table₀ buckets₀ heads unifiers₀ answers₀ found₀ kept₀ noted₀ headed bodied at room clauses concerns rows₀ k₀ table buckets unifiers answers found kept noted rows k = clauses - k
+μ-loop words dir table₀ buckets₀ heads unifiers₀ answers₀ found₀ kept₀ answered₀ headed bodied at room clauses concerns rows₀ k₀ table buckets unifiers answers found kept answered rows k = clauses - k
 
 shared-slice-read-wide : tie.Need-shared-slice-read-wide Inv-loop μ-loop
 shared-slice-read-wide c = omega (arith, c .before .before .before .before .before .before .before .before .before .before .before .before .before .pre .0 .situation .setting .directory .size)

@@ -20,25 +20,25 @@ use Rattle.rounds.proofs.rounds.rounds.Statement.{statement}
 use Rattle.rounds.proofs.rounds.rounds.Tie as tie
 
 abbrev Inv-loop : tie.InvT-loop
-Inv-loop words dir table₀ buckets₀ heads₀ unifiers₀ answers₀ found₀ kept₀ noted₀ room headed bodied rows₀ since₀ number₀ table buckets heads unifiers answers found kept noted rows since number =
+Inv-loop words dir table₀ buckets₀ heads₀ unifiers₀ answers₀ found₀ kept₀ answered₀ room headed bodied rows₀ since₀ number₀ table buckets heads unifiers answers found kept answered rows since number =
     (length table ≡ length table₀) × (length buckets ≡ length buckets₀) × (length heads ≡ length heads₀) × (length unifiers ≡ length unifiers₀) × (length answers ≡ length answers₀)
     × (length found ≡ length found₀) × Scratch answers found × ((p : Program) → Setting words dir p → Rounding p table buckets heads room since rows number)
-    × (length kept ≡ length kept₀) × Keeps words dir table kept rows rows × KeepsAnswers words dir table noted rows
+    × (length kept ≡ length kept₀) × Keeps words dir table kept rows rows × KeepsAnswers words dir table answered rows
 
 abbrev μ-loop : tie.MeasureT-loop
-μ-loop words dir table₀ buckets₀ heads₀ unifiers₀ answers₀ found₀ kept₀ noted₀ room headed bodied rows₀ since₀ number₀ table buckets heads unifiers answers found kept noted rows since number = room - rows
+μ-loop words dir table₀ buckets₀ heads₀ unifiers₀ answers₀ found₀ kept₀ answered₀ room headed bodied rows₀ since₀ number₀ table buckets heads unifiers answers found kept answered rows since number = room - rows
 
-slice-aggregate-note-heads : tie.Need-slice-aggregate-note-heads Inv-loop μ-loop
-slice-aggregate-note-heads c = search needs
+slice-aggregate-enter-heads : tie.Need-slice-aggregate-enter-heads Inv-loop μ-loop
+slice-aggregate-enter-heads c = search needs
 
-note-heads-requires : tie.Need-note-heads-requires Inv-loop μ-loop
-note-heads-requires c κs = (record { p = c .before .before .before .before .before .before .before .before .before .before .before .pre .p; setting = c .before .before .before .before .before .before .before .before .before .before .before .pre .setting }, refl)
+enter-heads-requires : tie.Need-enter-heads-requires Inv-loop μ-loop
+enter-heads-requires c κs = (record { p = c .before .before .before .before .before .before .before .before .before .before .before .pre .p; setting = c .before .before .before .before .before .before .before .before .before .before .before .pre .setting }, refl)
 
-slice-aggregate-note-bodies : tie.Need-slice-aggregate-note-bodies Inv-loop μ-loop
-slice-aggregate-note-bodies c = search needs
+slice-aggregate-enter-bodies : tie.Need-slice-aggregate-enter-bodies Inv-loop μ-loop
+slice-aggregate-enter-bodies c = search needs
 
-note-bodies-requires : tie.Need-note-bodies-requires Inv-loop μ-loop
-note-bodies-requires c κs = (record { p = c .before .before .before .before .before .before .before .before .before .before .before .before .before .before .pre .p; setting = c .before .before .before .before .before .before .before .before .before .before .before .before .before .before .pre .setting }, refl)
+enter-bodies-requires : tie.Need-enter-bodies-requires Inv-loop μ-loop
+enter-bodies-requires c κs = (record { p = c .before .before .before .before .before .before .before .before .before .before .before .before .before .before .pre .p; setting = c .before .before .before .before .before .before .before .before .before .before .before .before .before .before .pre .setting }, refl)
 
 shared-slice-read-add : tie.Need-shared-slice-read-add Inv-loop μ-loop
 shared-slice-read-add c = omega (arith, c .before .before .before .before .before .before .before .before .before .before .before .before .before .before .before .before .before .before .before .pre .setting .directory .size)
@@ -69,7 +69,7 @@ loop-holds c = let s = c .before .before .before .before .before .before .before
   λ p st. round-zero-there _ _ p st _ _ _ _ _ _ _ _ (st .directory .goal-ground) (c .before .before .before .before .before .add .ensures) (c .if1 .left) (s .pre .room-most) (rw (c .before .before .before .before .before .add .kept .0) (s .pre .room-there)) (s .pre .no-heads),
   refl,
   λ p st. keeping-none p _ _ _ (s .pre .none-kept),
-  λ p st. answers-none p _ _ _ (s .pre .none-noted),
+  λ p st. answers-none p _ _ _ (s .pre .none-answered),
 )
 
 link-requires : tie.Need-link-requires Inv-loop μ-loop
@@ -88,9 +88,9 @@ round-requires c κs =
     let t = turn (c .before .before .before .before .before .before .before .before .before .before .before .before .before .before .before .before .before .loop .inv .7) (c .before .before .before .before .before .before .before .before .before .before .before .before .before .before .link .ensures) (c .before .before .before .before .before .before .before .before .before .before .before .before .before .before .link .kept .0) (c .before .before .before .before .before .before .before .before .before .before .before .before .before .before .link .kept .1 .0) in (
       record {
         situation = turn-situation t (c .before .before .before .before .before .before .before .before .before .before .before .before .before .before .before .before .before .before .before .before .before .before .before .before .before .before .before .before .before .before .before .before .before .before .before .before .before .before .before .before .before .before .before .pre .p) (c .before .before .before .before .before .before .before .before .before .before .before .before .before .before .before .before .before .before .before .before .before .before .before .before .before .before .before .before .before .before .before .before .before .before .before .before .before .before .before .before .before .before .before .pre .setting);
-        heads-size = c .before .before .before .before .before .before .before .before .before .before .before .before .before .before .before .before .before .before .before .before .before .before .before .before .before .before .before .before .before .before .before .note-heads .kept .1 .1 .0;
-        bodies-size = c .before .before .before .before .before .before .before .before .before .before .before .before .before .before .before .before .before .before .before .before .before .before .before .before .before .before .before .before .note-bodies .kept .1 .1 .0;
-        indexed = record { heads-noted = c .before .before .before .before .before .before .before .before .before .before .before .before .before .before .before .before .before .before .before .before .before .before .before .before .before .before .before .before .before .before .before .note-heads .ensures (c .before .before .before .before .before .before .before .before .before .before .before .before .before .before .before .before .before .before .before .before .before .before .before .before .before .before .before .before .before .before .before .before .before .before .before .before .before .before .before .before .before .before .before .pre .p) (c .before .before .before .before .before .before .before .before .before .before .before .before .before .before .before .before .before .before .before .before .before .before .before .before .before .before .before .before .before .before .before .before .before .before .before .before .before .before .before .before .before .before .before .pre .setting); bodies-noted = c .before .before .before .before .before .before .before .before .before .before .before .before .before .before .before .before .before .before .before .before .before .before .before .before .before .before .before .before .note-bodies .ensures (c .before .before .before .before .before .before .before .before .before .before .before .before .before .before .before .before .before .before .before .before .before .before .before .before .before .before .before .before .before .before .before .before .before .before .before .before .before .before .before .before .before .before .before .pre .p) (c .before .before .before .before .before .before .before .before .before .before .before .before .before .before .before .before .before .before .before .before .before .before .before .before .before .before .before .before .before .before .before .before .before .before .before .before .before .before .before .before .before .before .before .pre .setting) };
+        heads-size = c .before .before .before .before .before .before .before .before .before .before .before .before .before .before .before .before .before .before .before .before .before .before .before .before .before .before .before .before .before .before .before .enter-heads .kept .1 .1 .0;
+        bodies-size = c .before .before .before .before .before .before .before .before .before .before .before .before .before .before .before .before .before .before .before .before .before .before .before .before .before .before .before .before .enter-bodies .kept .1 .1 .0;
+        indexed = record { heads-entered = c .before .before .before .before .before .before .before .before .before .before .before .before .before .before .before .before .before .before .before .before .before .before .before .before .before .before .before .before .before .before .before .enter-heads .ensures (c .before .before .before .before .before .before .before .before .before .before .before .before .before .before .before .before .before .before .before .before .before .before .before .before .before .before .before .before .before .before .before .before .before .before .before .before .before .before .before .before .before .before .before .pre .p) (c .before .before .before .before .before .before .before .before .before .before .before .before .before .before .before .before .before .before .before .before .before .before .before .before .before .before .before .before .before .before .before .before .before .before .before .before .before .before .before .before .before .before .before .pre .setting); bodies-entered = c .before .before .before .before .before .before .before .before .before .before .before .before .before .before .before .before .before .before .before .before .before .before .before .before .before .before .before .before .enter-bodies .ensures (c .before .before .before .before .before .before .before .before .before .before .before .before .before .before .before .before .before .before .before .before .before .before .before .before .before .before .before .before .before .before .before .before .before .before .before .before .before .before .before .before .before .before .before .pre .p) (c .before .before .before .before .before .before .before .before .before .before .before .before .before .before .before .before .before .before .before .before .before .before .before .before .before .before .before .before .before .before .before .before .before .before .before .before .before .before .before .before .before .before .before .pre .setting) };
       },
       turn-writable t (c .before .before .before .before .before .before .before .before .before .before .before .before .before .before .before .before .before .before .before .before .before .before .before .before .before .before .before .before .before .before .before .before .before .before .before .before .before .before .before .before .before .before .before .pre .p) (c .before .before .before .before .before .before .before .before .before .before .before .before .before .before .before .before .before .before .before .before .before .before .before .before .before .before .before .before .before .before .before .before .before .before .before .before .before .before .before .before .before .before .before .pre .setting),
       c .before .before .before .before .before .before .before .before .before .before .before .before .before .before .before .before .before .loop .inv .6,
@@ -121,7 +121,7 @@ same-length-9 : tie.Need-same-length-9 Inv-loop μ-loop
 same-length-9 c = c .before .before .before .before .before .before .before .before .before .before .before .before .before .before .before .round .kept .1 .1 .1 .1 .1 .1 .1 .1 .0 ∙ c .before .before .before .before .before .before .before .before .before .before .before .before .before .before .before .before .before .before .before .before .before .before .before .before .before .before .before .before .before .before .before .before .before .loop .inv .8
 
 same-length-10 : tie.Need-same-length-10 Inv-loop μ-loop
-same-length-10 c = c .before .before .before .before .before .before .before .before .before .before .before .before .before .before .before .round .kept .1 .1 .1 .1 .1 .1 .1 .1 .1 .0 ∙ c .before .before .before .before .before .before .before .before .before .before .before .before .before .before .before .before .before .before .before .before .before .before .before .before .before .before .before .before .before .before .before .before .before .loop .inv .10 (c .before .before .before .before .before .before .before .before .before .before .before .before .before .before .before .before .before .before .before .before .before .before .before .before .before .before .before .before .before .before .before .before .before .before .before .before .before .before .before .before .before .before .before .before .before .before .before .before .before .before .before .before .before .before .before .before .before .before .before .pre .p) (c .before .before .before .before .before .before .before .before .before .before .before .before .before .before .before .before .before .before .before .before .before .before .before .before .before .before .before .before .before .before .before .before .before .before .before .before .before .before .before .before .before .before .before .before .before .before .before .before .before .before .before .before .before .before .before .before .before .before .before .pre .setting) .size ∙ sym (ap length (c .before .before .before .before .before .before .before .before .before .before .before .before .before .before .before .before .before .before .before .before .before .before .before .before .before .before .before .before .before .before .before .before .before .before .before .before .before .before .before .before .before .before .before .before .before .before .before .before .before .before .before .before .before .before .before .before .before .before .before .pre .none-noted) ∙ length-replicate {A = ℕ} answerWords 0)
+same-length-10 c = c .before .before .before .before .before .before .before .before .before .before .before .before .before .before .before .round .kept .1 .1 .1 .1 .1 .1 .1 .1 .1 .0 ∙ c .before .before .before .before .before .before .before .before .before .before .before .before .before .before .before .before .before .before .before .before .before .before .before .before .before .before .before .before .before .before .before .before .before .loop .inv .10 (c .before .before .before .before .before .before .before .before .before .before .before .before .before .before .before .before .before .before .before .before .before .before .before .before .before .before .before .before .before .before .before .before .before .before .before .before .before .before .before .before .before .before .before .before .before .before .before .before .before .before .before .before .before .before .before .before .before .before .before .pre .p) (c .before .before .before .before .before .before .before .before .before .before .before .before .before .before .before .before .before .before .before .before .before .before .before .before .before .before .before .before .before .before .before .before .before .before .before .before .before .before .before .before .before .before .before .before .before .before .before .before .before .before .before .before .before .before .before .before .before .before .before .pre .setting) .size ∙ sym (ap length (c .before .before .before .before .before .before .before .before .before .before .before .before .before .before .before .before .before .before .before .before .before .before .before .before .before .before .before .before .before .before .before .before .before .before .before .before .before .before .before .before .before .before .before .before .before .before .before .before .before .before .before .before .before .before .before .before .before .before .before .pre .none-answered) ∙ length-replicate {A = ℕ} answerWords 0)
 
 returns-2 : tie.Need-returns-2 Inv-loop μ-loop
 returns-2 c =
@@ -150,7 +150,7 @@ same-length-17 : tie.Need-same-length-17 Inv-loop μ-loop
 same-length-17 c = c .before .before .before .before .before .before .before .before .before .before .before .before .before .before .before .before .round .kept .1 .1 .1 .1 .1 .1 .1 .1 .0 ∙ c .before .before .before .before .before .before .before .before .before .before .before .before .before .before .before .before .before .before .before .before .before .before .before .before .before .before .before .before .before .before .before .before .before .before .loop .inv .8
 
 same-length-18 : tie.Need-same-length-18 Inv-loop μ-loop
-same-length-18 c = c .before .before .before .before .before .before .before .before .before .before .before .before .before .before .before .before .round .kept .1 .1 .1 .1 .1 .1 .1 .1 .1 .0 ∙ c .before .before .before .before .before .before .before .before .before .before .before .before .before .before .before .before .before .before .before .before .before .before .before .before .before .before .before .before .before .before .before .before .before .before .loop .inv .10 (c .before .before .before .before .before .before .before .before .before .before .before .before .before .before .before .before .before .before .before .before .before .before .before .before .before .before .before .before .before .before .before .before .before .before .before .before .before .before .before .before .before .before .before .before .before .before .before .before .before .before .before .before .before .before .before .before .before .before .before .before .pre .p) (c .before .before .before .before .before .before .before .before .before .before .before .before .before .before .before .before .before .before .before .before .before .before .before .before .before .before .before .before .before .before .before .before .before .before .before .before .before .before .before .before .before .before .before .before .before .before .before .before .before .before .before .before .before .before .before .before .before .before .before .before .pre .setting) .size ∙ sym (ap length (c .before .before .before .before .before .before .before .before .before .before .before .before .before .before .before .before .before .before .before .before .before .before .before .before .before .before .before .before .before .before .before .before .before .before .before .before .before .before .before .before .before .before .before .before .before .before .before .before .before .before .before .before .before .before .before .before .before .before .before .before .pre .none-noted) ∙ length-replicate {A = ℕ} answerWords 0)
+same-length-18 c = c .before .before .before .before .before .before .before .before .before .before .before .before .before .before .before .before .round .kept .1 .1 .1 .1 .1 .1 .1 .1 .1 .0 ∙ c .before .before .before .before .before .before .before .before .before .before .before .before .before .before .before .before .before .before .before .before .before .before .before .before .before .before .before .before .before .before .before .before .before .before .loop .inv .10 (c .before .before .before .before .before .before .before .before .before .before .before .before .before .before .before .before .before .before .before .before .before .before .before .before .before .before .before .before .before .before .before .before .before .before .before .before .before .before .before .before .before .before .before .before .before .before .before .before .before .before .before .before .before .before .before .before .before .before .before .before .pre .p) (c .before .before .before .before .before .before .before .before .before .before .before .before .before .before .before .before .before .before .before .before .before .before .before .before .before .before .before .before .before .before .before .before .before .before .before .before .before .before .before .before .before .before .before .before .before .before .before .before .before .before .before .before .before .before .before .before .before .before .before .before .pre .setting) .size ∙ sym (ap length (c .before .before .before .before .before .before .before .before .before .before .before .before .before .before .before .before .before .before .before .before .before .before .before .before .before .before .before .before .before .before .before .before .before .before .before .before .before .before .before .before .before .before .before .before .before .before .before .before .before .before .before .before .before .before .before .before .before .before .before .before .pre .none-answered) ∙ length-replicate {A = ℕ} answerWords 0)
 
 returns-3 : tie.Need-returns-3 Inv-loop μ-loop
 returns-3 c =
@@ -190,10 +190,10 @@ rounds-spec =
     (tie.spec
     Inv-loop
     μ-loop
-    slice-aggregate-note-heads
-    note-heads-requires
-    slice-aggregate-note-bodies
-    note-bodies-requires
+    slice-aggregate-enter-heads
+    enter-heads-requires
+    slice-aggregate-enter-bodies
+    enter-bodies-requires
     shared-slice-read-add
     add-requires
     same-length

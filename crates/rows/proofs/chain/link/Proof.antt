@@ -1,5 +1,6 @@
 -- `link` meets its contract: each turn puts one row more into the chain of its slot. The measure is how many rows are left. Assumes nothing.
-use Rattle.rows.specs.Rows.{rowSize, slotAt}
+use Rattle.program.specs.Limits.{rowSize}
+use Rattle.rows.specs.Rows.{slotAt}
 use lib.ListN.{getD}
 use Rattle.rows.proofs.Linking.{linked-none, linked-more, befores-slot}
 use Rattle.rows.specs.Linked.{Linked}

@@ -1,8 +1,8 @@
--- `note` meets its contract: the bit is put in, and no other is touched. Assumes nothing.
+-- `enter` meets its contract: the bit is put in, and no other is touched. Assumes nothing.
 use borrow.Author.Needs.{needs}
-use Rattle.concerns.proofs.ActiveClauses.{noted-one}
-use Rattle.concerns.proofs.index.note.Statement.{statement}
-use Rattle.concerns.proofs.index.note.Tie as tie
+use Rattle.concerns.proofs.ActiveClauses.{entered-one}
+use Rattle.concerns.proofs.index.enter.Statement.{statement}
+use Rattle.concerns.proofs.index.enter.Tie as tie
 
 mul-set : tie.Need-mul-set
 mul-set c = search needs
@@ -23,9 +23,9 @@ same-length : tie.Need-same-length
 same-length c = search needs
 
 returns : tie.Need-returns
-returns c = noted-one (c .before .args .set .now) (c .before .args .q) (c .before .args .k) (c .before .pre .0) (c .before .pre .1)
+returns c = entered-one (c .before .args .set .now) (c .before .args .q) (c .before .args .k) (c .before .pre .0) (c .before .pre .1)
 
-pub note-spec : {M : Type 1} → statement M
-note-spec =
+pub enter-spec : {M : Type 1} → statement M
+enter-spec =
     tie.close
     (tie.spec mul-set slice-read-set shl-set mul-set-2 slice-write-set same-length returns)

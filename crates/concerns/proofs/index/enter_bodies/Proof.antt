@@ -1,4 +1,4 @@
--- `note_bodies` meets its contract: the body atoms passed are noted. The measures are how many clauses, and how many of a clause's atoms, are left. Assumes nothing.
+-- `enter_bodies` meets its contract: the body atoms passed are entered. The measures are how many clauses, and how many of a clause's atoms, are left. Assumes nothing.
 use Prim.Native.Nat.{_+_, _-_, _≤_, _<_}
 use native.Mathlib.Omega.{arith}
 use mathlib.Core.Path.{_≡_, refl, sym, _∙_}
@@ -8,8 +8,8 @@ use Rattle.directory.specs.Layout.{clauseFirst, clauseCount}
 use Rattle.steps.specs.Situation.{Setting}
 use Rattle.concerns.proofs.ActiveClauses.{body-in-words, body-declared, head-in-words}
 use Rattle.concerns.proofs.ClauseIndex.{BodiesBelow, clause-at, clause-spans, body-here, body-own, next-begins, bodies-on, bodies-all}
-use Rattle.concerns.proofs.index.note_bodies.Statement.{statement}
-use Rattle.concerns.proofs.index.note_bodies.Tie as tie
+use Rattle.concerns.proofs.index.enter_bodies.Statement.{statement}
+use Rattle.concerns.proofs.index.enter_bodies.Tie as tie
 
 abbrev Inv-loop2 : tie.InvT-loop2
 Inv-loop2 words dir set₀ clauses j₀ k end set j =
@@ -75,8 +75,8 @@ shared-slice-read-wide-4 c = rw (c .before .wide3 .ensures .0) (body-in-words (c
 wide-requires-4 : tie.Need-wide-requires-4 Inv-loop2 μ-loop2 Inv-loop μ-loop
 wide-requires-4 c κs = tt
 
-note-requires : tie.Need-note-requires Inv-loop2 μ-loop2 Inv-loop μ-loop
-note-requires c κs =
+enter-requires : tie.Need-enter-requires Inv-loop2 μ-loop2 Inv-loop μ-loop
+enter-requires c κs =
     let here = body-here (c .before .before .before .before .before .before .before .before .before .before .before .before .before .before .before .before .pre .0 .setting) _ _ _ (c .before .before .before .before .before .before .before .before .before .before .loop .inv .1) (c .before .before .before .before .before .before .before .before .before .loop-test .taken) (c .before .before .before .before .before .before .loop2 .inv .0) (rw (c .before .before .before .before .before .before .before .wide2 .ensures .0) at (c .before .before .before .before .before .loop2-test .taken)) in
     let d : c .before .wide4 .result < 64 = rw (c .before .wide4 .ensures .0, c .before .before .before .wide3 .ensures .0) (body-declared (c .before .before .before .before .before .before .before .before .before .before .before .before .before .before .before .before .pre .0 .setting) here) in
     (omega (arith, d, c .before .before .before .before .before .before .loop2 .inv .2, c .before .before .before .before .before .before .before .before .before .before .loop .inv .2, c .before .before .before .before .before .before .before .before .before .before .before .before .before .before .before .before .pre .1), head-in-words (c .before .before .before .before .before .before .before .before .before .before .before .before .before .before .before .before .pre .0 .setting) (clause-at (c .before .before .before .before .before .before .before .before .before .before .before .before .before .before .before .before .pre .0 .setting) _ _ (c .before .before .before .before .before .before .before .before .before .before .loop .inv .1) (c .before .before .before .before .before .before .before .before .before .loop-test .taken) .1) .0)
@@ -91,9 +91,9 @@ loop2-again : tie.Need-loop2-again Inv-loop2 μ-loop2 Inv-loop μ-loop
 loop2-again c = (
   omega (arith, c .before .before .before .before .before .before .before .before .before .loop2 .inv .0),
   omega (arith, c .before .before .before .before .before .before .before .before .loop2-test .taken),
-  c .before .before .note .kept .0 ∙ c .before .before .before .before .before .before .before .before .before .loop2 .inv .2,
+  c .before .before .enter .kept .0 ∙ c .before .before .before .before .before .before .before .before .before .loop2 .inv .2,
   λ p st.
-      bodies-on st _ _ _ _ _ (c .before .before .note .ensures) (rw (c .before .before .before .before .before .before .wide3 .ensures .0) at (c .before .before .before .before .wide4 .ensures .0))
+      bodies-on st _ _ _ _ _ (c .before .before .enter .ensures) (rw (c .before .before .before .before .before .before .wide3 .ensures .0) at (c .before .before .before .before .wide4 .ensures .0))
       (body-own st _ _ _ (c .before .before .before .before .before .before .before .before .before .before .before .before .before .loop .inv .1) (c .before .before .before .before .before .before .before .before .before .before .before .before .loop-test .taken) (c .before .before .before .before .before .before .before .before .before .loop2 .inv .0) (rw (c .before .before .before .before .before .before .before .before .before .before .wide2 .ensures .0) at (c .before .before .before .before .before .before .before .before .loop2-test .taken)))
       (c .before .before .before .before .before .before .before .before .before .loop2 .inv .3 p st),
 )
@@ -119,8 +119,8 @@ same-length c = c .before .loop .inv .2
 returns : tie.Need-returns Inv-loop2 μ-loop2 Inv-loop μ-loop
 returns c = λ p st. bodies-all st (c .before .loop .set) _ _ _ (c .before .loop .inv .1) (c .before .loop .inv .0) (c .loop-test .left) (c .before .loop .inv .3) (c .before .loop .inv .4 p st)
 
-pub note-bodies-spec : {M : Type 1} → statement M
-note-bodies-spec =
+pub enter-bodies-spec : {M : Type 1} → statement M
+enter-bodies-spec =
     tie.close
     (tie.spec
     Inv-loop2
@@ -143,7 +143,7 @@ note-bodies-spec =
     mul-wide-3
     shared-slice-read-wide-4
     wide-requires-4
-    note-requires
+    enter-requires
     add-j
     loop2-less
     loop2-again

@@ -1,4 +1,4 @@
--- `note_heads` meets its contract: the clauses passed are noted. The measure is how many are left. Assumes nothing.
+-- `enter_heads` meets its contract: the clauses passed are entered. The measure is how many are left. Assumes nothing.
 use Prim.Native.Nat.{_-_, _≤_, _<_}
 use native.Mathlib.Omega.{arith}
 use mathlib.Core.Path.{_≡_, refl, _∙_}
@@ -8,8 +8,8 @@ use Rattle.directory.specs.Layout.{clauseCount}
 use Rattle.steps.specs.Situation.{Setting}
 use Rattle.concerns.proofs.ActiveClauses.{head-in-words, head-declared}
 use Rattle.concerns.proofs.ClauseIndex.{HeadsBelow, clause-at, heads-on, heads-all}
-use Rattle.concerns.proofs.index.note_heads.Statement.{statement}
-use Rattle.concerns.proofs.index.note_heads.Tie as tie
+use Rattle.concerns.proofs.index.enter_heads.Statement.{statement}
+use Rattle.concerns.proofs.index.enter_heads.Tie as tie
 
 abbrev Inv-loop : tie.InvT-loop
 Inv-loop words dir set₀ clauses k₀ set k =
@@ -48,8 +48,8 @@ shared-slice-read-wide-3 c = rw (c .before .wide2 .ensures .0) (head-in-words (c
 wide-requires-3 : tie.Need-wide-requires-3 Inv-loop μ-loop
 wide-requires-3 c κs = tt
 
-note-requires : tie.Need-note-requires Inv-loop μ-loop
-note-requires c κs =
+enter-requires : tie.Need-enter-requires Inv-loop μ-loop
+enter-requires c κs =
     let d : c .before .wide3 .result < 64 = rw (c .before .wide3 .ensures .0, c .before .before .before .wide2 .ensures .0) (head-declared (c .before .before .before .before .before .before .before .before .before .before .before .before .pre .0 .setting) (clause-at (c .before .before .before .before .before .before .before .before .before .before .before .before .pre .0 .setting) _ _ (c .before .before .before .before .before .before .loop .inv .1) (c .before .before .before .before .before .loop-test .taken) .1)) in
     (omega (arith, d, c .before .before .before .before .before .before .loop .inv .2, c .before .before .before .before .before .before .before .before .before .before .before .before .pre .1), head-in-words (c .before .before .before .before .before .before .before .before .before .before .before .before .pre .0 .setting) (clause-at (c .before .before .before .before .before .before .before .before .before .before .before .before .pre .0 .setting) _ _ (c .before .before .before .before .before .before .loop .inv .1) (c .before .before .before .before .before .loop-test .taken) .1) .0)
 
@@ -63,8 +63,8 @@ loop-again : tie.Need-loop-again Inv-loop μ-loop
 loop-again c = (
   omega (arith, c .before .before .before .before .before .before .before .before .loop-test .taken),
   c .before .before .before .before .before .before .before .before .before .loop .inv .1,
-  c .before .before .note .kept .0 ∙ c .before .before .before .before .before .before .before .before .before .loop .inv .2,
-  λ p st. heads-on st _ _ _ _ (c .before .before .note .ensures) (rw (c .before .before .before .before .before .before .wide2 .ensures .0) at (c .before .before .before .before .wide3 .ensures .0)) (c .before .before .before .before .before .before .before .before .before .loop .inv .3 p st),
+  c .before .before .enter .kept .0 ∙ c .before .before .before .before .before .before .before .before .before .loop .inv .2,
+  λ p st. heads-on st _ _ _ _ (c .before .before .enter .ensures) (rw (c .before .before .before .before .before .before .wide2 .ensures .0) at (c .before .before .before .before .wide3 .ensures .0)) (c .before .before .before .before .before .before .before .before .before .loop .inv .3 p st),
 )
 
 same-length : tie.Need-same-length Inv-loop μ-loop
@@ -73,8 +73,8 @@ same-length c = c .before .loop .inv .2
 returns : tie.Need-returns Inv-loop μ-loop
 returns c = λ p st. heads-all st (c .before .loop .set) _ _ (c .before .loop .inv .1) (omega (arith, c .loop-test .left)) (c .before .loop .inv .3 p st)
 
-pub note-heads-spec : {M : Type 1} → statement M
-note-heads-spec =
+pub enter-heads-spec : {M : Type 1} → statement M
+enter-heads-spec =
     tie.close
     (tie.spec
     Inv-loop
@@ -89,7 +89,7 @@ note-heads-spec =
     mul-wide-2
     shared-slice-read-wide-3
     wide-requires-3
-    note-requires
+    enter-requires
     add-k
     loop-less
     loop-again

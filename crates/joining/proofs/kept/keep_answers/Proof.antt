@@ -1,21 +1,21 @@
--- `note_answers` meets its contract: the set has gained the answers passed. The measure is how many are left. Assumes nothing.
+-- `keep_answers` meets its contract: the set has gained the answers passed. The measure is how many are left. Assumes nothing.
 use Prim.Native.Nat.{_-_, _≤_}
 use native.Mathlib.Omega.{arith}
 use borrow.Author.Needs.{needs}
 use mathlib.Core.Path.{_≡_}
 use Rattle.joining.specs.KeptAnswers.{Gained, Ordered}
-use Rattle.joining.proofs.KeptMasks.{order-small, word-there, noted-none, noted-one}
-use Rattle.joining.proofs.kept.note_answers.Statement.{statement}
-use Rattle.joining.proofs.kept.note_answers.Tie as tie
+use Rattle.joining.proofs.KeptMasks.{order-small, word-there, answered-none, answered-one}
+use Rattle.joining.proofs.kept.keep_answers.Statement.{statement}
+use Rattle.joining.proofs.kept.keep_answers.Tie as tie
 
 abbrev Inv-loop : tie.InvT-loop
-Inv-loop order count answers upto j noted₀ i₀ noted i = (i ≤ upto) × Gained (Ordered order count answers i) j noted₀ noted
+Inv-loop order count answers upto j answered₀ i₀ answered i = (i ≤ upto) × Gained (Ordered order count answers i) j answered₀ answered
 
 abbrev μ-loop : tie.MeasureT-loop
-μ-loop order count answers upto j noted₀ i₀ noted i = upto - i
+μ-loop order count answers upto j answered₀ i₀ answered i = upto - i
 
 loop-holds : tie.Need-loop-holds Inv-loop μ-loop
-loop-holds c = (omega arith, noted-none (c .before .before .pre .kept) (c .before .before .args .answers .now) (c .before .before .args .noted .now))
+loop-holds c = (omega arith, answered-none (c .before .before .pre .kept) (c .before .before .args .answers .now) (c .before .before .args .answered .now))
 
 mul-q : tie.Need-mul-q Inv-loop μ-loop
 mul-q c = omega (arith, c .before .before .before .before .pre .kept .near)
@@ -35,11 +35,11 @@ wide-requires c κs = search needs
 add-q : tie.Need-add-q Inv-loop μ-loop
 add-q c = omega (arith, c .before .before .before .before .before .before .before .pre .kept .near, c .wide .ensures .1)
 
-mul-noted : tie.Need-mul-noted Inv-loop μ-loop
-mul-noted c = omega (arith, c .before .before .before .before .before .before .before .pre .kept .near, c .wide .ensures .1)
+mul-answered : tie.Need-mul-answered Inv-loop μ-loop
+mul-answered c = omega (arith, c .before .before .before .before .before .before .before .pre .kept .near, c .wide .ensures .1)
 
-slice-read-noted : tie.Need-slice-read-noted Inv-loop μ-loop
-slice-read-noted c =
+slice-read-answered : tie.Need-slice-read-answered Inv-loop μ-loop
+slice-read-answered c =
     let st = c .before .before .before .before .before .before .before .before in
     let at = c .before .before .before .before .before .loop in
     rw (c .before .wide .ensures .0) (omega (arith, word-there (st .pre .kept) _ _ _ (at .i) _ (st .pre .size) (omega (arith, st .pre .within, c .before .before .before .before .loop-test .taken)) (c .before .before .renumber .ensures) (at .inv .1), at .inv .1 .size, st .pre .size))
@@ -47,11 +47,11 @@ slice-read-noted c =
 mark-requires : tie.Need-mark-requires Inv-loop μ-loop
 mark-requires c κs = omega arith
 
-mul-noted-2 : tie.Need-mul-noted-2 Inv-loop μ-loop
-mul-noted-2 c = omega (arith, c .before .before .before .before .before .before .before .before .before .pre .kept .near, c .before .before .wide .ensures .1)
+mul-answered-2 : tie.Need-mul-answered-2 Inv-loop μ-loop
+mul-answered-2 c = omega (arith, c .before .before .before .before .before .before .before .before .before .pre .kept .near, c .before .before .wide .ensures .1)
 
-slice-write-noted : tie.Need-slice-write-noted Inv-loop μ-loop
-slice-write-noted c =
+slice-write-answered : tie.Need-slice-write-answered Inv-loop μ-loop
+slice-write-answered c =
     let st = c .before .before .before .before .before .before .before .before .before in
     let at = c .before .before .before .before .before .before .loop in
     rw (c .before .before .wide .ensures .0) (omega (arith, word-there (st .pre .kept) _ _ _ (at .i) _ (st .pre .size) (omega (arith, st .pre .within, c .before .before .before .before .before .loop-test .taken)) (c .before .before .before .renumber .ensures) (at .inv .1), at .inv .1 .size, st .pre .size))
@@ -67,7 +67,7 @@ loop-again c =
     let st = c .before .before .before .before .before .before .before .before .before in
     let at = c .before .before .before .before .before .before .loop in (
       omega (arith, c .before .before .before .before .before .loop-test .taken),
-      rw (c .mark .ensures, c .before .before .wide .ensures .0) (noted-one (st .pre .kept) _ _ _ (at .i) _ (st .pre .size) (omega (arith, st .pre .within, c .before .before .before .before .before .loop-test .taken)) (c .before .before .before .renumber .ensures) (at .inv .1)),
+      rw (c .mark .ensures, c .before .before .wide .ensures .0) (answered-one (st .pre .kept) _ _ _ (at .i) _ (st .pre .size) (omega (arith, st .pre .within, c .before .before .before .before .before .loop-test .taken)) (c .before .before .before .renumber .ensures) (at .inv .1)),
     )
 
 same-length : tie.Need-same-length Inv-loop μ-loop
@@ -78,8 +78,8 @@ returns c =
     let e : c .before .loop .i ≡ c .before .before .before .before .args .upto = omega (arith, c .before .loop .inv .0, c .loop-test .left) in
     rw e at (c .before .loop .inv .1)
 
-pub note-answers-spec : {M : Type 1} → statement M
-note-answers-spec =
+pub keep-answers-spec : {M : Type 1} → statement M
+keep-answers-spec =
     tie.close
     (tie.spec
     Inv-loop
@@ -91,11 +91,11 @@ note-answers-spec =
     renumber-requires
     wide-requires
     add-q
-    mul-noted
-    slice-read-noted
+    mul-answered
+    slice-read-answered
     mark-requires
-    mul-noted-2
-    slice-write-noted
+    mul-answered-2
+    slice-write-answered
     add-i
     loop-less
     loop-again
