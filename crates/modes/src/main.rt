@@ -1,4 +1,5 @@
-// Reads a scenario text on standard input and prints the listing of its mode table, or one line `refused`, number, place.
+// Reads a scenario text on standard input and prints the listing of its mode table, or one line `refused`, number, place. A write that fails is
+// said on standard error.
 use libc::STDIN_FILENO;
 use libc::STDOUT_FILENO;
 use printing::print::print;
@@ -9,5 +10,7 @@ fn main() {
     let mut out = io::large_buffer();
     let size = io::read_full(STDIN_FILENO, &mut text);
     let end = print(&text[..size], &mut out);
-    io::write_all(STDOUT_FILENO, &out[..end]);
+    if !io::write_all(STDOUT_FILENO, &out[..end]) {
+        os::fail(b"modes: cannot write");
+    }
 }
