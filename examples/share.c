@@ -7,8 +7,6 @@
 
 #include "threadknoll.h"
 
-enum { FIRST_VARIABLE = 32768, MAX_CELLS = 32, MAX_SHAPES = 1025 };
-
 static uint8_t text[THREADKNOLL_MAX_TEXT + 1];
 static uint16_t words[THREADKNOLL_MAX_WORDS];
 static uint8_t names[THREADKNOLL_MAX_NAMES];
@@ -16,10 +14,10 @@ static uint16_t table[THREADKNOLL_MAX_ROWS * THREADKNOLL_ROW_WORDS];
 
 struct shape {
     int cells;
-    uint16_t cell[MAX_CELLS];
+    uint16_t cell[THREADKNOLL_ATOM_CELLS];
 };
 
-static struct shape shapes[MAX_SHAPES];
+static struct shape shapes[THREADKNOLL_MAX_SHAPES];
 static int shape_count;
 
 static int arity_of_predicate(uint16_t n) { return words[3 + n]; }
@@ -28,7 +26,7 @@ static int arity_of_function(uint16_t n) { return words[3 + words[0] + n]; }
 /* The first cell behind a term of an accepted program. */
 static size_t term_end(size_t at) {
     uint16_t cell = words[at++];
-    if (cell < FIRST_VARIABLE)
+    if (cell < THREADKNOLL_FIRST_VARIABLE)
         for (int i = arity_of_function(cell); i > 0; i--)
             at = term_end(at);
     return at;
@@ -44,18 +42,18 @@ static size_t atom_end(size_t at) {
 /* "A shape is an atom with its variables renumbered by first appearance"; each distinct shape is numbered once. */
 static void add_shape(size_t from, size_t to) {
     struct shape *s = &shapes[shape_count];
-    uint16_t met[16];
+    uint16_t met[THREADKNOLL_MAX_VARIABLES];
     int variables = 0;
     s->cells = (int)(to - from);
     for (int i = 0; i < s->cells; i++) {
         uint16_t cell = words[from + i];
-        if (i > 0 && cell >= FIRST_VARIABLE) {
+        if (i > 0 && cell >= THREADKNOLL_FIRST_VARIABLE) {
             int v = 0;
             while (v < variables && met[v] != cell)
                 v++;
             if (v == variables)
                 met[variables++] = cell;
-            cell = (uint16_t)(FIRST_VARIABLE + v);
+            cell = (uint16_t)(THREADKNOLL_FIRST_VARIABLE + v);
         }
         s->cell[i] = cell;
     }
@@ -91,10 +89,10 @@ static uint16_t argument_variables(const struct shape *s, int n) {
         mask = 0;
         for (int left = 1; left > 0; left--) {
             uint16_t cell = s->cell[at++];
-            if (cell < FIRST_VARIABLE)
+            if (cell < THREADKNOLL_FIRST_VARIABLE)
                 left += arity_of_function(cell);
             else
-                mask |= (uint16_t)(1u << (cell - FIRST_VARIABLE));
+                mask |= (uint16_t)(1u << (cell - THREADKNOLL_FIRST_VARIABLE));
         }
     }
     return mask;
@@ -115,12 +113,12 @@ int main(void) {
         int calls = 0;
         for (size_t r = 0; r < count; r++) {
             const uint16_t *row = table + r * THREADKNOLL_ROW_WORDS;
-            if (row[1] == THREADKNOLL_CALL && row[2] == n) {
-                ground &= row[4];
+            if (row[THREADKNOLL_KIND] == THREADKNOLL_CALL && row[THREADKNOLL_A] == n) {
+                ground &= row[THREADKNOLL_MASK];
                 calls++;
             }
         }
-        printf("shape %d %.16s:", n, (const char *)names + 16 * shapes[n].cell[0]);
+        printf("shape %d %.*s:", n, THREADKNOLL_NAME_BYTES, (const char *)names + THREADKNOLL_NAME_BYTES * shapes[n].cell[0]);
         if (calls == 0)
             printf(" never called");
         else

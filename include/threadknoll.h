@@ -2,7 +2,8 @@
  * Threadknoll: the mode table of a scenario, proved.
  *
  * Four functions over lent buffers. There is no heap and no global state. Any bytes, any words and any lengths get a reply, and the caller
- * checks nothing first. Each function is proved to keep its promise, listed in docs/PROMISES.md; this header says it in plain words.
+ * checks nothing first. Each function is proved to keep its promise, listed in docs/PROMISES.md; this header says it in plain words, and
+ * docs/FORMATS.md what texts, words, names, tables and listings are, with an example.
  *
  * A reply is a number, which is handed back, a place and a count, which are put behind the two pointers. 0 is "accepted": the place is
  * then 0, the count says how much was written, and the rest of each lent buffer is zeros. Every other number is a refusal: the count is
@@ -21,12 +22,22 @@
 extern "C" {
 #endif
 
-/* The limits: the longest text that is read or written, rooms that are always enough for words and names, the most rows that a table has. */
-#define THREADKNOLL_MAX_TEXT 40960   /* bytes of a scenario text */
-#define THREADKNOLL_MAX_WORDS 2048   /* words of an encoded program */
-#define THREADKNOLL_MAX_NAMES 2048   /* bytes of its names: 16 for each of at most 128 symbols */
-#define THREADKNOLL_MAX_ROWS 4096    /* rows of a table */
-#define THREADKNOLL_ROW_WORDS 5      /* round, kind, a, b, mask */
+/* The limits. A text, words, names and a listing never need more room; a table of more than MAX_ROWS rows is refused in any room. */
+#define THREADKNOLL_MAX_TEXT 40960       /* bytes of a scenario text */
+#define THREADKNOLL_MAX_WORDS 2048       /* words of an encoded program */
+#define THREADKNOLL_MAX_NAMES 2048       /* bytes of its names: 16 for each of at most 128 symbols */
+#define THREADKNOLL_MAX_ROWS 4096        /* rows of a table */
+#define THREADKNOLL_MAX_SHAPES 1025      /* shapes of a program: that of the goal, and of 64 clauses with 16 body atoms each */
+#define THREADKNOLL_MAX_VARIABLES 16     /* variables of a clause, of the goal and of a shape; bits of a mask */
+
+/* Bytes of a listing, 181,276: the first line, the lines of the shapes, a tab and a name for each of their cells, the rows, the last line. */
+#define THREADKNOLL_MAX_LISTING (8 + 11 * THREADKNOLL_MAX_SHAPES + 17 * THREADKNOLL_MAX_WORDS + 33 * THREADKNOLL_MAX_ROWS + 9)
+
+/* The units of the formats. */
+#define THREADKNOLL_FIRST_VARIABLE 32768 /* the cell of variable v is 32768 + v; cells below are numbers of functions, or an atom's predicate */
+#define THREADKNOLL_ATOM_CELLS 32        /* the most cells of an atom, its predicate's among them */
+#define THREADKNOLL_NAME_BYTES 16        /* bytes of each name, padded with zeros */
+#define THREADKNOLL_ROW_WORDS 5          /* words of a row */
 
 enum threadknoll_number {
     THREADKNOLL_ACCEPTED = 0,
@@ -39,13 +50,31 @@ enum threadknoll_number {
     THREADKNOLL_FOLLOWS = 7,       /* something follows the goal, or the names */
     THREADKNOLL_TOO_LONG = 8,      /* over 2,048 words, or over 40,960 bytes */
     THREADKNOLL_NO_ROOM = 9,       /* the complete result is larger than the room; the place is the room: rows, words or bytes */
-    THREADKNOLL_NEITHER = 10,      /* proved never to come */
+    /* 10 is not used */
     THREADKNOLL_ILL_FORMED = 11,   /* the text's line or token has a wrong form */
     THREADKNOLL_BAD_NAME = 12,     /* a declared name is ill formed, or declared twice in its kind */
     THREADKNOLL_BOTH_MODES = 13    /* a query variable is both `V` and `G` */
 };
 
-/* What a row's second word says. */
+/*
+ * A row's five words, by their index. Bit v of the mask is set where variable v is ground.
+ *
+ *   kind            a              b                    variable v of the mask is
+ *   1 call          the shape      0                    variable v of the shape
+ *   2 cont          the clause     the body atom that   variable v of the clause; only those of the place's list have bits:
+ *                   from 1         it waits at, from 1  they occur in the head or an atom before b, and in the head, atom b or one behind it
+ *   3 solution      the shape      0                    variable v of the shape
+ *
+ * A shape is an atom with its variables renumbered from 0 by first appearance. Shape 0 is the goal's; the body atoms follow in program
+ * order, each distinct shape numbered once. Heads are no shapes.
+ */
+enum threadknoll_word {
+    THREADKNOLL_ROUND = 0, /* the round in which the row first appears, from 0 */
+    THREADKNOLL_KIND = 1,
+    THREADKNOLL_A = 2,
+    THREADKNOLL_B = 3,
+    THREADKNOLL_MASK = 4
+};
 enum threadknoll_kind { THREADKNOLL_CALL = 1, THREADKNOLL_CONT = 2, THREADKNOLL_SOLUTION = 3 };
 
 /*
