@@ -174,6 +174,9 @@ pub fn damaged_words(random: &mut Random, words: &[u16]) -> Vec<u16> {
             _ => {}
         }
     }
+    if random.once_in(100) {
+        words.resize(WORDS + random.below(3), 0);
+    }
     words
 }
 

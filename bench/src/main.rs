@@ -1,12 +1,17 @@
-//! Holds the library beside a plain Rust implementation of document 01: answers first, then times.
+//! Holds the library's code, compiled by Rust and from the archive, beside a plain Rust implementation of document 01: answers first, then times.
 
+mod clock;
 mod compare;
 mod functions;
 mod generate;
 mod input;
+mod inputs;
 mod large;
+mod native;
+mod program;
 mod random;
 mod reference;
+mod tally;
 mod times;
 mod vectors;
 
@@ -18,7 +23,7 @@ use std::process::exit;
 const INPUTS: usize = 120_000;
 
 const USAGE: &str = "usage:
-  bench                    compare the library's answers with the reference's, then their times
+  bench                    compare the answers of the library's code with the reference's, then their times
   bench times              the times alone
   bench large              what the large programs cost the reference
   bench reference FOLDER   hold the reference against a folder of samples (NAME.in, NAME.out; words.txt)
@@ -39,11 +44,7 @@ fn main() {
 }
 
 fn compare_then_time() {
-    let Some(library) = functions::LIBRARY else {
-        eprintln!("built without the library: run `rt staticlib threadknoll` in the folder above, then this again");
-        exit(2);
-    };
-    if !compare::compare(&library, INPUTS) {
+    if !compare::compare(INPUTS) {
         exit(1);
     }
     times::print();

@@ -1,14 +1,13 @@
-//! Times side by side: the reference and the library on the same inputs, turn by turn in one run.
+//! Times side by side: the reference and the library's code on the same programs, turn by turn in one run.
 
-use crate::functions::{Answer, Functions, LIBRARY, REFERENCE};
+use crate::clock::processor_time;
+use crate::functions::{Call, Function, Given, Lent, FUNCTIONS, READ};
 use crate::generate::{size, sound, Sound};
 use crate::large;
+use crate::program::Program;
 use crate::random::Random;
-use crate::reference::limits::*;
-use crate::reference::read::read;
-use crate::reference::write::write;
 use std::hint::black_box;
-use std::time::{Duration, Instant};
+use std::time::Duration;
 
 /// Document 01's *Legs* and *Late call*, and the report's naive reverse.
 const SCENARIOS: [&str; 3] = [
@@ -20,89 +19,54 @@ const SCENARIOS: [&str; 3] = [
      clause\tapp\tcons\tV0\tV1\tV2\tcons\tV0\tV3\tapp\tV1\tV2\tV3\nquery\trev\tG0\tV1\n",
 ];
 
-/// A program in all its forms, with rooms that are enough, and what the functions leave in them.
-struct Case {
-    text: Vec<u8>,
-    words: Vec<u16>,
-    names: Vec<u8>,
-}
-
-struct Rooms {
-    words: Vec<u16>,
-    names: Vec<u8>,
-    table: Vec<u16>,
-    bytes: Vec<u8>,
-}
-
-type Work = fn(&Functions, &Case, &mut Rooms) -> Answer;
-
-const ANALYSE: Work = |f, case, rooms| (f.analyse)(&case.words, &mut rooms.table);
-const READ: Work = |f, case, rooms| (f.read)(&case.text, &mut rooms.words, &mut rooms.names);
-const WRITE: Work = |f, case, rooms| (f.write)(&case.words, &case.names, &mut rooms.bytes);
-const LIST: Work = |f, case, rooms| (f.list)(&case.words, &case.names, &mut rooms.table, &mut rooms.bytes);
-
 pub fn print() {
-    println!("{:<12}{:<20}{:>14}{:>14}{:>8}", "", "", "reference µs", "library µs", "ratio");
-    let small: Vec<Case> = SCENARIOS.iter().map(|text| scenario(text)).collect();
-    let mixed: Vec<Case> = (0..40).map(|seed| case(random_small(seed))).collect();
+    let small: Vec<Program> = SCENARIOS.iter().map(|text| Program::of_text(text)).collect();
+    let mixed: Vec<Program> = (0..40).map(|seed| Program::of(random_small(seed))).collect();
     let mut groups = vec![("small scenarios", small), ("random, small", mixed)];
-    groups.extend(large::groups().into_iter().map(|g| (g.name, g.programs.into_iter().map(case).collect())));
-    let works: [(&str, Work); 4] = [("analyse", ANALYSE), ("list", LIST), ("read", READ), ("write", WRITE)];
-    for (work_name, work) in works {
-        for (name, cases) in &groups {
-            print_line(work_name, name, work, cases);
+    groups.extend(large::groups().into_iter().map(|g| (g.name, g.programs.into_iter().map(Program::of).collect())));
+    let library: String = READ.library().iter().map(|(name, _)| format!("{:>14}{:>8}", format!("{name} µs"), "ratio")).collect();
+    println!("{:<12}{:<20}{:>14}{library}", "", "", "reference µs");
+    for function in FUNCTIONS {
+        for (name, programs) in &groups {
+            print_line(function, name, programs);
         }
     }
 }
 
-fn print_line(work_name: &str, name: &str, work: Work, cases: &[Case]) {
+/// The reference's time, and for each way to the library's code its time and the ratio of the two.
+fn print_line(function: &Function, name: &str, programs: &[Program]) {
     // A small scenario is lent a small table, as an engine would.
-    let large = cases.iter().any(|case| case.words.len() > 100);
+    let large = programs.iter().any(|program| program.words.len() > 100);
     let scale = if large { 1 } else { 16 };
-    let mut rooms = Rooms {
-        words: vec![0; WORDS / scale],
-        names: vec![0; NAME_BYTES * (PREDICATES + FUNCTIONS) / scale],
-        table: vec![0; ROWS * ROW_WORDS / scale],
-        bytes: vec![0; 3 * LISTING_BYTES / scale],
-    };
-    let (mut reference, mut library) = (f64::INFINITY, f64::INFINITY);
+    let mut words = vec![0; function.enough.0 / scale];
+    let mut bytes = vec![0; function.enough.1 / scale];
+    let given: Vec<Given> = programs.iter().map(function.given).collect();
+    let calls: Vec<Call> = [function.reference].into_iter().chain(function.library().iter().map(|(_, call)| *call)).collect();
+    let mut best = vec![f64::INFINITY; calls.len()];
     for _ in 0..TURNS {
-        reference = reference.min(turn(&REFERENCE, work, cases, &mut rooms));
-        if let Some(functions) = &LIBRARY {
-            library = library.min(turn(functions, work, cases, &mut rooms));
+        for (call, best) in calls.iter().zip(&mut best) {
+            *best = best.min(turn(*call, &given, &mut words, &mut bytes));
         }
     }
-    match LIBRARY {
-        Some(_) => println!("{work_name:<12}{name:<20}{reference:>14.2}{library:>14.2}{:>8.2}", library / reference),
-        None => println!("{work_name:<12}{name:<20}{reference:>14.2}{:>14}{:>8}", "-", "-"),
-    }
+    let library: String = best[1..].iter().map(|time| format!("{time:>14.2}{:>8.2}", time / best[0])).collect();
+    println!("{:<12}{name:<20}{:>14.2}{library}", function.name, best[0]);
 }
 
 /// The best of so many turns counts: other work on the machine only adds.
-const TURNS: usize = 7;
-const TURN: Duration = Duration::from_millis(30);
+const TURNS: usize = 20;
+const TURN: Duration = Duration::from_millis(10);
 
-/// Microseconds for one case, over as many runs of all cases as fill a turn.
-fn turn(functions: &Functions, work: Work, cases: &[Case], rooms: &mut Rooms) -> f64 {
-    let start = Instant::now();
-    let mut runs = 0;
-    while runs == 0 || start.elapsed() < TURN {
-        for case in cases {
-            black_box(work(functions, black_box(case), rooms));
+/// Microseconds for one call, over as many calls on all that is given as fill a turn.
+fn turn(call: Call, given: &[Given], words: &mut [u16], bytes: &mut [u8]) -> f64 {
+    let start = processor_time();
+    let mut calls = 0;
+    while calls == 0 || processor_time() - start < TURN {
+        for given in given {
+            black_box(call(black_box(given), Lent { words: &mut *words, bytes: &mut *bytes }));
         }
-        runs += cases.len();
+        calls += given.len();
     }
-    start.elapsed().as_secs_f64() * 1e6 / runs as f64
-}
-
-fn scenario(text: &str) -> Case {
-    let (words, names) = read(text.as_bytes()).expect("a sound scenario");
-    Case { text: text.as_bytes().to_vec(), words, names }
-}
-
-fn case(Sound { words, names }: Sound) -> Case {
-    let text = write(&words, &names).expect("a sound program");
-    Case { text, words, names }
+    (processor_time() - start).as_secs_f64() * 1e6 / calls as f64
 }
 
 /// A random program of at most 100 words.

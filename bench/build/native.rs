@@ -1,0 +1,50 @@
+//! The library's code as Rust modules in cargo's folder for what is built: one file for each file of the sources.
+
+use crate::crates::{needed, Crate};
+use crate::translate::translate;
+use std::fs;
+use std::path::Path;
+
+/// The crate that has the public functions.
+const TOP: &str = "threadknoll";
+/// The Rust module that all crates stand below.
+const ROOT: &str = "crate::native";
+
+/// Writes the modules of all crates below `repository` that the library needs; `native.rs` declares them.
+pub fn write_modules(repository: &Path, out: &Path) -> Result<(), String> {
+    let list = repository.join("crates.txt");
+    println!("cargo::rerun-if-changed={}", list.display());
+    let list = fs::read_to_string(&list).map_err(|e| format!("{}: {e}", list.display()))?;
+    let mut declared = String::new();
+    for needed in needed(&list, TOP)? {
+        let folder = out.join("native").join(&needed.name);
+        write_crate(&repository.join("crates").join(&needed.name).join("src"), &needed, &folder)?;
+        declared.push_str(&format!("#[path = {:?}]\npub mod {};\n", folder.join("lib.rs"), needed.name));
+    }
+    write(&out.join("native.rs"), &declared)
+}
+
+fn write_crate(sources: &Path, of: &Crate, folder: &Path) -> Result<(), String> {
+    println!("cargo::rerun-if-changed={}", sources.display());
+    let at = |path: &Path, e: std::io::Error| format!("{}: {e}", path.display());
+    fs::create_dir_all(folder).map_err(|e| at(folder, e))?;
+    for entry in fs::read_dir(sources).map_err(|e| at(sources, e))? {
+        let path = entry.map_err(|e| at(sources, e))?.path();
+        if path.extension().is_none_or(|e| e != "rt") {
+            return Err(format!("{}: no Rattle text", path.display()));
+        }
+        let text = fs::read_to_string(&path).map_err(|e| at(&path, e))?;
+        let rust = translate(&text, &of.name, &of.depends_on, ROOT).map_err(|fault| format!("{}: {fault}", path.display()))?;
+        let name = path.file_stem().expect("it has an extension");
+        write(&folder.join(name).with_extension("rs"), &rust)?;
+    }
+    Ok(())
+}
+
+/// Leaves a file as it is where it has the text already, so that nothing is built again for it.
+fn write(path: &Path, text: &str) -> Result<(), String> {
+    if fs::read(path).is_ok_and(|there| there == text.as_bytes()) {
+        return Ok(());
+    }
+    fs::write(path, text).map_err(|e| format!("{}: {e}", path.display()))
+}
