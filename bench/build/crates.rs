@@ -39,3 +39,22 @@ fn listed(list: &str) -> Result<Vec<Crate>, String> {
     }
     Ok(crates)
 }
+
+#[cfg(test)]
+mod tests {
+    use super::needed;
+
+    const LIST: &str = "# lowest first\na:\nb: a   # above\nother: a io\ntop: b\n";
+
+    #[test]
+    fn only_what_is_needed_in_the_order_of_the_list() {
+        let names: Vec<String> = needed(LIST, "top").unwrap().into_iter().map(|c| c.name).collect();
+        assert_eq!(names, ["a", "b", "top"]);
+    }
+
+    #[test]
+    fn a_crate_that_is_not_listed_is_a_fault() {
+        assert!(needed(LIST, "other").is_err_and(|fault| fault.starts_with("io")));
+        assert!(needed("a b", "a").is_err());
+    }
+}

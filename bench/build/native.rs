@@ -1,7 +1,7 @@
 //! The library's code as Rust modules in cargo's folder for what is built: one file for each file of the sources.
 
-use crate::crates::{needed, Crate};
-use crate::translate::translate;
+use super::crates::{needed, Crate};
+use super::translate::translate;
 use std::fs;
 use std::path::Path;
 

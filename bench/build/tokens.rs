@@ -22,68 +22,75 @@ pub struct Token<'a> {
 }
 
 /// The tokens of a text in turn, with nothing left out.
-pub fn tokens(text: &str) -> Result<Vec<Token<'_>>, String> {
+pub fn tokens(text: &str) -> Vec<Token<'_>> {
     let mut tokens = Vec::new();
     let mut rest = text;
     let mut line = 1;
     while !rest.is_empty() {
-        let (kind, length) = first(rest).map_err(|fault| format!("line {line}: {fault}"))?;
+        let (kind, length) = first(rest);
         let (text, behind) = rest.split_at(length);
         tokens.push(Token { kind, text, line });
         line += text.matches('\n').count();
         rest = behind;
     }
-    Ok(tokens)
+    tokens
 }
 
 /// The kind and the length of the first token.
-fn first(text: &str) -> Result<(Kind, usize), String> {
+fn first(text: &str) -> (Kind, usize) {
     let length_while = |belongs: fn(char) -> bool| text.find(|c| !belongs(c)).unwrap_or(text.len());
     let sign = text.chars().next().expect("not empty");
     if text.starts_with("//") {
-        return Ok((Kind::Between, text.find('\n').unwrap_or(text.len())));
-    }
-    if text.starts_with("/*") {
-        return Err("a comment in `/*`".to_string());
+        return (Kind::Between, text.find('\n').unwrap_or(text.len()));
     }
     if sign.is_ascii_whitespace() {
-        return Ok((Kind::Between, length_while(|c| c.is_ascii_whitespace())));
+        return (Kind::Between, length_while(|c| c.is_ascii_whitespace()));
     }
-    if text.starts_with("b'") || text.starts_with("b\"") {
-        return Ok((Kind::Quoted, 1 + quoted(&text[1..])?));
-    }
-    if sign == '"' {
-        return Ok((Kind::Quoted, quoted(text)?));
-    }
-    if sign == '\'' {
-        let name = text[1..].find(|c: char| !is_word(c)).unwrap_or(text.len() - 1);
-        return Ok((Kind::Quoted, 1 + name));
+    if let Some(length) = quoted(text) {
+        return (Kind::Quoted, length);
     }
     if is_word(sign) {
-        return Ok((Kind::Word, length_while(is_word)));
+        return (Kind::Word, length_while(is_word));
     }
     if text.starts_with("::") {
-        return Ok((Kind::Sign, 2));
+        return (Kind::Sign, 2);
     }
-    let known = "{}()[]<>#&|^!=+-*/%.,:;".contains(sign);
-    Ok((if known { Kind::Sign } else { Kind::Other }, sign.len_utf8()))
+    let known = "{}()[]<>#&|^!=+-*/%.,:;".contains(sign) && !text.starts_with("/*");
+    (if known { Kind::Sign } else { Kind::Other }, sign.len_utf8())
 }
 
 fn is_word(c: char) -> bool {
     c.is_ascii_alphanumeric() || c == '_'
 }
 
-/// The length of what stands in quotes, with both of them.
-fn quoted(text: &str) -> Result<usize, String> {
-    let quote = text.as_bytes()[0];
-    let mut at = 1;
+/// The length of a byte string, a string, a byte or a lifetime that stands first, if one does.
+fn quoted(text: &str) -> Option<usize> {
+    let start = usize::from(text.starts_with('b'));
+    let quote = *text.as_bytes().get(start)?;
+    if quote == b'"' {
+        return closed(text, start + 1, quote);
+    }
+    if quote != b'\'' {
+        return None;
+    }
+    if start == 1 {
+        // A name of a contract may end in a quote: of a byte there is one.
+        return closed(text, 2, quote).filter(|end| *end == 4 || text.as_bytes()[2] == b'\\');
+    }
+    let name = text[1..].find(|c| !is_word(c)).unwrap_or(text.len() - 1);
+    Some(1 + name).filter(|_| name > 0)
+}
+
+/// The length to behind the quote that closes what begins at `from`, on the same line.
+fn closed(text: &str, from: usize, quote: u8) -> Option<usize> {
+    let mut at = from;
     while let Some(byte) = text.as_bytes().get(at) {
         match *byte {
-            b'\n' => break,
+            b'\n' => return None,
             b'\\' => at += 2,
-            byte if byte == quote => return Ok(at + 1),
+            byte if byte == quote => return Some(at + 1),
             _ => at += 1,
         }
     }
-    Err("a quote that is not closed".to_string())
+    None
 }

@@ -2,11 +2,11 @@
 //!
 //! Whatever stands outside contracts and has no form that is known here is refused, and what this lets pass is then held against Rust's own rules.
 
-use crate::tokens::{tokens, Kind, Token};
+use super::tokens::{tokens, Kind, Token};
 
 /// The text of a file of the crate `name`, which may name the crates `depends_on`; all stand below the Rust module `root`.
 pub fn translate(text: &str, name: &str, depends_on: &[String], root: &str) -> Result<String, String> {
-    let tokens = tokens(text)?;
+    let tokens = tokens(text);
     let mut translator = Translator { tokens: &tokens, at: 0, out: String::new(), name, depends_on, root };
     while translator.at < tokens.len() {
         translator.next()?;
@@ -180,5 +180,64 @@ impl Translator<'_> {
             }
             _ => Err(self.fault("a name of `std` that is not known")),
         }
+    }
+}
+
+#[cfg(test)]
+mod tests {
+    use super::translate;
+
+    fn rust(text: &str) -> Result<String, String> {
+        translate(text, "steps", &["terms".to_string()], "crate::native")
+    }
+
+    #[track_caller]
+    fn is(text: &str, expected: &str) {
+        assert_eq!(rust(text).as_deref(), Ok(expected));
+    }
+
+    #[track_caller]
+    fn is_refused(text: &str, why: &str) {
+        let fault = rust(text).expect_err("a fault");
+        assert!(fault.contains(why), "{fault}");
+    }
+
+    #[test]
+    fn contracts_are_left_out_and_lines_stay() {
+        is(
+            "fn f(x: u8)\n    requires { ⌜ {x' : ℕ} → b' ≡ \"{\" ⌝ }\n    ensures goes { λ r.\n ⌜ r ⌝ }\n{\n}\n",
+            "fn f(x: u8)\n    \n    \n\n{\n}\n",
+        );
+        is("ghost use lib.Dec.{T, _≡_};\n// λ\nconst A: u8 = b'{';\n", "\n// λ\nconst A: u8 = b'{';\n");
+    }
+
+    #[test]
+    fn paths_lead_to_the_crates() {
+        is("use terms::walk::wide;", "use crate::native::terms::walk::wide;");
+        is("x = crate::meet::meet(y);", "x = crate::native::steps::meet::meet(y);");
+        is("m = Step::End; n = u16::count_ones(terms);", "m = Step::End; n = u16::count_ones(terms);");
+        is("a = std::num::wrapping_add_u32(b, c);", "a = u32::wrapping_add(b, c);");
+    }
+
+    #[test]
+    fn plain_data_is_copied_and_c_names_go() {
+        is("pub struct P {\n}", "#[derive(Clone, Copy)] pub struct P {\n}");
+        is("enum E {}", "#[derive(Clone, Copy)] enum E {}");
+        is("#[no_mangle]\npub extern \"C\" fn f() {}", "\npub  fn f() {}");
+    }
+
+    #[test]
+    fn what_is_not_known_is_refused() {
+        is_refused("fn f()\n{\n λ }", "line 3: `λ` outside a contract");
+        is_refused("fn f()\n    requires { ⌜ { ⌝ }\n{\n}", "not closed");
+        is_refused("fn f()\n    ensures { a } }\n{\n}", "`}` behind a contract");
+        is_refused("fn f() requires x;", "no braces");
+        is_refused("ghost fn f();", "no `use`");
+        is_refused("ghost use a", "no `;`");
+        is_refused("#[inline]\nfn f() {}", "an attribute");
+        is_refused("extern \"C\" { fn f(); }", "exports no function");
+        is_refused("x = std::num::nearest_u64_to_f64(y);", "`std`");
+        is_refused("x = super::y;", "a path from `super`");
+        is_refused("/* x */", "outside a contract");
     }
 }

@@ -2,18 +2,33 @@
 
 mod clock;
 mod compare;
+mod deep;
 mod functions;
 mod generate;
 mod input;
 mod inputs;
 mod large;
 mod native;
+mod once;
+mod painted;
 mod program;
 mod random;
 mod reference;
+mod stack;
 mod tally;
 mod times;
 mod vectors;
+
+// The steps of the build, for their tests.
+#[cfg(test)]
+#[path = "../build/crates.rs"]
+mod crates;
+#[cfg(test)]
+#[path = "../build/tokens.rs"]
+mod tokens;
+#[cfg(test)]
+#[path = "../build/translate.rs"]
+mod translate;
 
 use std::io::Write;
 use std::path::Path;
@@ -25,6 +40,8 @@ const INPUTS: usize = 120_000;
 const USAGE: &str = "usage:
   bench                    compare the answers of the library's code with the reference's, then their times
   bench times              the times alone
+  bench stack              the deepest stack of each function, and what a level of nesting adds
+  bench once WHICH NAME    one call for each program that is timed; WHICH: reference, native, archive; NAME: read, analyse, list, write
   bench large              what the large programs cost the reference
   bench reference FOLDER   hold the reference against a folder of samples (NAME.in, NAME.out; words.txt)
   bench reference TEXT     what `modes` prints for a scenario text, by the reference";
@@ -34,8 +51,10 @@ fn main() {
     match &arguments.iter().map(String::as_str).collect::<Vec<_>>()[..] {
         [] => compare_then_time(),
         ["times"] => times::print(),
+        ["stack"] => stack::print(),
         ["large"] => large::print(),
         ["reference", path] => reference_alone(Path::new(path)),
+        ["once", which, name] if once::run(which, name) => {}
         _ => {
             eprintln!("{USAGE}");
             exit(2);

@@ -46,3 +46,32 @@ impl Tally {
         lacks
     }
 }
+
+#[cfg(test)]
+mod tests {
+    use super::{Tally, FUNCTIONS};
+
+    /// So many inputs of each function with each number that can come.
+    fn full(count: usize) -> Tally {
+        let mut tally = Tally::default();
+        for function in FUNCTIONS {
+            let replies = function.replies.iter().flat_map(|number| vec![*number; count]);
+            replies.for_each(|number| tally.add(function, u64::from(number)));
+        }
+        tally
+    }
+
+    #[test]
+    fn enough_lacks_nothing() {
+        assert_eq!(full(3).lacks(3), Vec::<String>::new());
+    }
+
+    #[test]
+    fn each_lack_is_said() {
+        let mut tally = full(2);
+        assert_eq!(tally.lacks(3).len(), FUNCTIONS.len());
+        tally.by_function[0][1] = 0;
+        tally.by_function[1][13] = 5;
+        assert_eq!(tally.lacks(2), ["read: no input had reply 1", "analyse: 5 inputs had reply 13, which cannot come"]);
+    }
+}

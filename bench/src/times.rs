@@ -19,11 +19,16 @@ const SCENARIOS: [&str; 3] = [
      clause\tapp\tcons\tV0\tV1\tV2\tcons\tV0\tV3\tapp\tV1\tV2\tV3\nquery\trev\tG0\tV1\n",
 ];
 
-pub fn print() {
+/// The programs that are timed, by name: small ones, then those with large tables.
+pub fn groups() -> Vec<(&'static str, Vec<Program>)> {
     let small: Vec<Program> = SCENARIOS.iter().map(|text| Program::of_text(text)).collect();
     let mixed: Vec<Program> = (0..40).map(|seed| Program::of(random_small(seed))).collect();
-    let mut groups = vec![("small scenarios", small), ("random, small", mixed)];
-    groups.extend(large::groups().into_iter().map(|g| (g.name, g.programs.into_iter().map(Program::of).collect())));
+    let large = large::groups().into_iter().map(|g| (g.name, g.programs.into_iter().map(Program::of).collect()));
+    [("small scenarios", small), ("random, small", mixed)].into_iter().chain(large).collect()
+}
+
+pub fn print() {
+    let groups = groups();
     let library: String = READ.library().iter().map(|(name, _)| format!("{:>14}{:>8}", format!("{name} µs"), "ratio")).collect();
     println!("{:<12}{:<20}{:>14}{library}", "", "", "reference µs");
     for function in FUNCTIONS {
@@ -41,10 +46,10 @@ fn print_line(function: &Function, name: &str, programs: &[Program]) {
     let mut words = vec![0; function.enough.0 / scale];
     let mut bytes = vec![0; function.enough.1 / scale];
     let given: Vec<Given> = programs.iter().map(function.given).collect();
-    let calls: Vec<Call> = [function.reference].into_iter().chain(function.library().iter().map(|(_, call)| *call)).collect();
-    let mut best = vec![f64::INFINITY; calls.len()];
+    let implementations = function.implementations();
+    let mut best = vec![f64::INFINITY; implementations.len()];
     for _ in 0..TURNS {
-        for (call, best) in calls.iter().zip(&mut best) {
+        for ((_, call), best) in implementations.iter().zip(&mut best) {
             *best = best.min(turn(*call, &given, &mut words, &mut bytes));
         }
     }

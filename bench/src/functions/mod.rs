@@ -55,6 +55,11 @@ impl Function {
         let archive = self.archive.map(|call| ("archive", call));
         [("native", self.native)].into_iter().chain(archive).collect()
     }
+
+    /// The reference, and behind it the library's code.
+    pub fn implementations(&self) -> Vec<(&'static str, Call)> {
+        [("reference", self.reference)].into_iter().chain(self.library()).collect()
+    }
 }
 
 /// What the reference answers.
@@ -81,3 +86,17 @@ macro_rules! archive {
     }};
 }
 use archive;
+
+#[cfg(test)]
+mod tests {
+    use crate::native::threadknoll::*;
+    use crate::reference::limits::*;
+
+    #[test]
+    fn the_limits_are_those_of_the_document() {
+        assert_eq!(threadknoll_max_text(), TEXT_BYTES);
+        assert_eq!(threadknoll_max_words(), WORDS);
+        assert_eq!(threadknoll_max_names(), NAME_BYTES * (PREDICATES + FUNCTIONS));
+        assert_eq!(threadknoll_max_rows(), ROWS);
+    }
+}
