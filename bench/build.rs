@@ -10,17 +10,18 @@ mod tokens;
 mod translate;
 
 use std::path::PathBuf;
+use std::time::SystemTime;
 
 fn main() {
     println!("cargo::rerun-if-changed=build.rs");
     println!("cargo::rerun-if-changed=build");
     let here = PathBuf::from(set("CARGO_MANIFEST_DIR"));
     let repository = here.parent().expect("bench stands in the repository");
-    if let Err(fault) = native::write_modules(repository, &PathBuf::from(set("OUT_DIR"))) {
+    let changed = native::write_modules(repository, &PathBuf::from(set("OUT_DIR"))).unwrap_or_else(|fault| {
         eprintln!("the library's sources are not understood: {fault}");
         std::process::exit(1);
-    }
-    link_archive(repository.join("target/staticlib"));
+    });
+    link_archive(repository.join("target/staticlib"), changed);
 }
 
 /// A variable that cargo sets.
@@ -28,14 +29,18 @@ fn set(name: &str) -> String {
     std::env::var(name).unwrap_or_else(|_| panic!("cargo sets {name}"))
 }
 
-/// `rt staticlib` compiles for x86-64 alone.
-fn link_archive(usual: PathBuf) {
+/// `rt staticlib` compiles for x86-64 alone. An archive of other sources than these would be measured unseen.
+fn link_archive(usual: PathBuf, sources_changed: SystemTime) {
     println!("cargo::rustc-check-cfg=cfg(archive)");
     println!("cargo::rerun-if-env-changed=THREADKNOLL_LIBRARY");
     let folder = std::env::var("THREADKNOLL_LIBRARY").map(PathBuf::from).unwrap_or(usual);
     let file = folder.join("libthreadknoll.a");
     println!("cargo::rerun-if-changed={}", file.display());
-    if file.exists() && set("CARGO_CFG_TARGET_ARCH") == "x86_64" {
+    let made = std::fs::metadata(&file).and_then(|file| file.modified());
+    if let (Ok(made), "x86_64") = (made, set("CARGO_CFG_TARGET_ARCH").as_str()) {
+        if made < sources_changed {
+            println!("cargo::warning=the archive is older than the sources: `rt staticlib threadknoll` makes it again");
+        }
         println!("cargo::rustc-cfg=archive");
         println!("cargo::rustc-link-search=native={}", folder.display());
         println!("cargo::rustc-link-lib=static=threadknoll");

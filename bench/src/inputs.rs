@@ -1,7 +1,8 @@
 //! Inputs of the public functions made from one sound program.
 
+use crate::damage::*;
 use crate::functions::{Given, ANALYSE, LIST, READ, WRITE};
-use crate::generate::*;
+use crate::generate::Sound;
 use crate::input::Input;
 use crate::random::Random;
 use crate::reference::limits::*;

@@ -1,12 +1,12 @@
 //! Large programs: random ones of about 500, 2,000 and 4,000 rows and of more than 4,096, a long and a wide one.
 
+use crate::clock::processor_time;
 use crate::generate::{named, sound, Size, Sound};
 use crate::random::Random;
 use crate::reference::analyse::Analysis;
 use crate::reference::limits::*;
 use crate::reference::plan::Plan;
 use crate::reference::program::decode;
-use std::time::Instant;
 
 /// Programs under one name, of about the same number of rows.
 pub struct Group {
@@ -99,12 +99,12 @@ pub fn print() {
 
 /// `pairs` are unions of masks; `rule 2` and `rule 3` the combinations of rows without sets of masks between.
 fn print_one(words: &[u16]) {
-    let start = Instant::now();
+    let start = processor_time();
     let program = decode(words).expect("a sound program");
     let plan = Plan::new(&program);
     let mut analysis = Analysis::new(&plan, ROWS);
     let full = analysis.run().is_err();
-    let time = start.elapsed().as_micros();
+    let time = (processor_time() - start).as_micros();
     let (rule2, rule3) = analysis.combinations();
     println!(
         "{}{}\t{}\t{}\t{}\t{}\t{rule2}\t{rule3}\t{}\t{time}",

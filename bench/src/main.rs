@@ -2,6 +2,7 @@
 
 mod clock;
 mod compare;
+mod damage;
 mod deep;
 mod functions;
 mod generate;
