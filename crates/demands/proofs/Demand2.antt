@@ -19,7 +19,7 @@ use Rattle.runs.proofs.TableRuns.{promise-trusted}
 use Rattle.cells.specs.Table.{right, Scenario}
 use Rattle.reader.specs.Read.{readOf}
 use Rattle.writer.specs.Write.{textOf, writeOf}
-use Rattle.lister.specs.Listed.{namesFor}
+use Rattle.lister.specs.ListingPromise.{namesFor}
 use Rattle.round_trips.proofs.ReadWrite.{read-write}
 use Rattle.round_trips.proofs.WriteRead.{write-read}
 use Rattle.demands.specs.Promises.{Analyses, Reads, wordsRead, namesRead, Writes, textWritten}

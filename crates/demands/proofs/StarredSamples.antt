@@ -25,7 +25,7 @@ use Rattle.text.specs.Room.{inRoom}
 use Rattle.cells.specs.Table.{right}
 use Rattle.reader.specs.Read.{readOf}
 use Rattle.reader.proofs.Hands.{front-is}
-use Rattle.lister.specs.Listed.{namesFor, listed as by-listing}
+use Rattle.lister.specs.ListingPromise.{namesFor, listed as by-listing}
 use Rattle.printing.specs.Printed.{tableRoom, listingRoom, PrintedOf, read}
 use Rattle.demands.specs.Bytes.{bytes, named}
 use Rattle.demands.specs.Sample.{_in-round_, table-of, says, misread, leaves, too-many, lists, prints, faulty, Holds}

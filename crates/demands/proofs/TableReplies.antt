@@ -17,7 +17,7 @@ use Rattle.table.proofs.Promise.{table-once, promise-unique, promise-met, no-ro
 use Rattle.cells.specs.Table.{right}
 use Rattle.cells.proofs.Readings.{wrong-or-right}
 use Rattle.lister.specs.Listing.{listingOf}
-use Rattle.lister.specs.Listed.{namesFor, Refused, Listed, faulty, misnamed, unlisted, over, listed}
+use Rattle.lister.specs.ListingPromise.{namesFor, Refused, ListingPromise, faulty, misnamed, unlisted, over, listed}
 use Rattle.lister.proofs.ListedOnce.{listed-unique, listed-met}
 use Rattle.round_trips.proofs.ReadFaults.{FaultyBy}
 use Rattle.round_trips.proofs.WriteFaults.{names-faults}
@@ -82,7 +82,7 @@ module _ (words names : List ℕ) (size room : ℕ) where
     ten = λ d. ten (sym (numbers (z .reply-is)) ∙ d);
   }
 
-  list-answer : (r : Reply) (t o : List ℕ) → Listed words names size room r t o → ListAnswer r t o
+  list-answer : (r : Reply) (t o : List ℕ) → ListingPromise words names size room r t o → ListAnswer r t o
   list-answer r t o (faulty n q f z) =
       let h = fault-number words n q f in refusal z (λ d. omega arith) (λ d. absurd (omega arith), λ (p, s, m, l). absurd (fault-or-sound _ f s)) (h .2)
   list-answer r t o (misnamed p n q f w z) = refusal z (λ d. omega (arith, h .0)) (λ d. absurd (h .1 d), λ (p′, s, m, l). absurd (named p′ s m)) (h .2)

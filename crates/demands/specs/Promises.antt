@@ -13,7 +13,7 @@ use Rattle.cells.specs.Table.{Read, right, Scenario}
 use Rattle.reader.specs.Read as reads
 use Rattle.writer.specs.Write as writes
 use Rattle.lister.specs.Listing.{listingOf}
-use Rattle.lister.specs.Listed.{namesFor, Listed}
+use Rattle.lister.specs.ListingPromise.{namesFor, ListingPromise}
 
 -- `read`: of a text, with room for so many words and so many bytes of names; it leaves words and names
 abbrev pub readLeft : ℕ → ℕ → Read Scenario → List ℕ × List ℕ
@@ -45,7 +45,7 @@ Analyses words size reply left = Promise words size reply left
 
 -- `list`: of words and names, with so many words of table and so many bytes lent; it leaves a table and a listing
 abbrev pub Lists : List ℕ → List ℕ → ℕ → ℕ → Reply → List ℕ × List ℕ → Type 0
-Lists words names size room reply left = Listed words names size room reply (left .0) (left .1)
+Lists words names size room reply left = ListingPromise words names size room reply (left .0) (left .1)
 
 -- "the complete result is larger than the room": the words, or the names
 abbrev pub ReadLarger : List ℕ → ℕ → ℕ → Type 0

@@ -11,7 +11,7 @@ use Rattle.table.specs.Table.{Entry, tableWords, Promise}
 use Rattle.text.specs.Room.{inRoom}
 use Rattle.cells.specs.Table.{wrong, right}
 use Rattle.reader.specs.Read.{readOf}
-use Rattle.lister.specs.Listed.{Listed}
+use Rattle.lister.specs.ListingPromise.{ListingPromise}
 use Rattle.printing.specs.Printed.{Printed}
 use Rattle.demands.specs.Bytes.{bytes, named}
 
@@ -48,7 +48,7 @@ Holds (misread text number place) = readOf (bytes text) ≡ wrong number place
 Holds (leaves words size rows) = Promise words size (done (length rows)) (table-of size rows)
 Holds (too-many words size room) = Promise words size (refused noRoom room) (replicate size 0)
 Holds (lists words names size room rows listing) =
-    Listed words (named names) size room (done (length (bytes listing))) (table-of size rows) (inRoom room (bytes listing))
+    ListingPromise words (named names) size room (done (length (bytes listing))) (table-of size rows) (inRoom room (bytes listing))
 Holds (prints text printed) = Printed (bytes text) (bytes printed)
 Holds (faulty words number place) = (size : ℕ) → Promise words size (refused number place) (replicate size 0)
 

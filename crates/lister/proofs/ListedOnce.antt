@@ -19,7 +19,7 @@ use Rattle.writer.proofs.Answers.{names-right}
 use Rattle.cells.specs.Table.{Read, wrong, right}
 use Rattle.cells.proofs.Readings.{wrong-or-right}
 use Rattle.lister.specs.Listing.{listingOf}
-use Rattle.lister.specs.Listed.{namesFor, Refused, Rows, Listed, faulty, misnamed, unlisted, over, listed}
+use Rattle.lister.specs.ListingPromise.{namesFor, Refused, Rows, ListingPromise, faulty, misnamed, unlisted, over, listed}
 
 -- one number and one place make one refusal
 refused-once : {size room number place : ℕ} {r r′ : Reply} {t t′ o o′ : List ℕ} → Refused size room number place r t o → Refused size room number place r′ t′ o′
@@ -49,7 +49,7 @@ module _ (words names : List ℕ) (size room : ℕ) where
   over-or-listed a b l m = let e = ap length (listing-once a b) in omega arith
 
   -- "show that no second reply satisfies it": and no second table, and no second listing
-  pub listed-unique : (r r′ : Reply) (t t′ o o′ : List ℕ) → Listed words names size room r t o → Listed words names size room r′ t′ o′
+  pub listed-unique : (r r′ : Reply) (t t′ o o′ : List ℕ) → ListingPromise words names size room r t o → ListingPromise words names size room r′ t′ o′
       → (r ≡ r′) × (t ≡ t′) × (o ≡ o′)
   listed-unique r r′ t t′ o o′ (faulty n q f z) (faulty n′ q′ f′ z′) = refused-once z (same-fault (sym f ∙ f′) z′)
     where
@@ -87,7 +87,7 @@ module _ (words names : List ℕ) (size room : ℕ) where
       let same = listing-once a b in (e ∙ ap (λ (l : List ℕ). done (length l)) same ∙ sym e′, rows-once a b .2, g ∙ ap (inRoom room) same ∙ sym g′)
 
   abbrev pub Met : Type 0
-  Met = (r : Reply) × (t : List ℕ) × (o : List ℕ) × Listed words names size room r t o
+  Met = (r : Reply) × (t : List ℕ) × (o : List ℕ) × ListingPromise words names size room r t o
 
   -- "For all inputs, refused ones too, a public function's promise determines reply and every lent word afterwards": it has a reply, a table and a listing
   pub listed-met : Met

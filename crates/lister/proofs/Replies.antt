@@ -22,7 +22,7 @@ use Rattle.text.specs.Name.{maxNames}
 use Rattle.cells.specs.Table.{Read, wrong, right}
 use Rattle.writer.specs.Names.{namesOf, namesReply}
 use Rattle.writer.proofs.Answers.{names-right}
-use Rattle.lister.specs.Listed.{namesFor, Rows}
+use Rattle.lister.specs.ListingPromise.{namesFor, Rows}
 use Rattle.lister.specs.Asked.{ListingAsked, ListAsked}
 
 -- the scan's reply

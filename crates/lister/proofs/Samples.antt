@@ -14,7 +14,7 @@ use Rattle.table.proofs.Samples.{legs}
 use Rattle.table.proofs.TableSamples.{entry, legs-entries, legs-table, legs-accepted, legs-no-room}
 use Rattle.cells.specs.Table.{right}
 use Rattle.lister.specs.Listing.{listingOf}
-use Rattle.lister.specs.Listed.{namesFor, Rows, Listed, unlisted, over, listed}
+use Rattle.lister.specs.ListingPromise.{namesFor, Rows, ListingPromise, unlisted, over, listed}
 
 -- `follow`, `leg`, `a`, `b`: "Each name is kept as 16 bytes, padded with zeros, predicates first."
 abbrev pub legs-names : List ℕ
@@ -68,17 +68,17 @@ legs-rows : Rows legs-words legs-names 35 legs-table-words legs legs-entries
 legs-rows = record { program = legs-read; named = legs-named; rows = legs-table; analysed = legs-accepted }
 
 -- "room for 7 rows (35 words) is enough": and 135 bytes are
-pub legs-listed : Listed legs-words legs-names 35 135 (done 135) legs-table-words legs-text
+pub legs-listed : ListingPromise legs-words legs-names 35 135 (done 135) legs-table-words legs-text
 unfolding ℕ-discrete
 legs-listed = listed legs legs-entries legs-rows (omega arith) refl refl
 
 -- a byte less gives 9 with the room in bytes, and zeros
-pub legs-over : Listed legs-words legs-names 35 134 (refused noRoom 134) (replicate 35 0) (replicate 134 0)
+pub legs-over : ListingPromise legs-words legs-names 35 134 (refused noRoom 134) (replicate 35 0) (replicate 134 0)
 unfolding ℕ-discrete
 legs-over = over legs legs-entries legs-table-words legs-rows (omega arith) (record { reply-is = refl; table-zero = refl; out-zero = refl })
 
 -- "34 words give 9, place 6", whatever the room in bytes
-pub legs-unlisted : (room : ℕ) → Listed legs-words legs-names 34 room (refused noRoom 6) (replicate 34 0) (replicate room 0)
+pub legs-unlisted : (room : ℕ) → ListingPromise legs-words legs-names 34 room (refused noRoom 6) (replicate 34 0) (replicate room 0)
 legs-unlisted room =
     unlisted legs noRoom 6 (replicate 34 0) legs-read legs-named legs-no-room (λ e. omega arith) (record { reply-is = refl; table-zero = refl; out-zero = refl })
 

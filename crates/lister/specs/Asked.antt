@@ -1,4 +1,4 @@
--- What the functions that write the listing are asked. For the code alone: readers go by `Listed`.
+-- What the functions that write the listing are asked. For the code alone: readers go by `ListingPromise`.
 use Prim.Native.Nat.{ℕ}
 use mathlib.Core.Path.{_≡_}
 use mathlib.Core.List.{List, _++_, List·Memᴰ}
@@ -10,7 +10,7 @@ use Rattle.table.specs.Table.{Entry, tableWords}
 use Rattle.table.specs.Keys.{Regular}
 use Rattle.steps.specs.Situation.{Setting}
 use Rattle.cells.specs.Table.{right}
-use Rattle.lister.specs.Listed.{namesFor, Rows}
+use Rattle.lister.specs.ListingPromise.{namesFor, Rows}
 
 -- the rows of an accepted program in the table, and its directory
 pub record Tabled (dir table : List ℕ) (rows : ℕ) : Type 0 where

@@ -1,4 +1,4 @@
 -- The listing of a program's table, and the promise of the lister.
 pub mod Listing
-pub mod Listed
+pub mod ListingPromise
 pub mod Asked

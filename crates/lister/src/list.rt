@@ -10,7 +10,7 @@ use terms::walk::wide;
 use text::put::clear;
 use writer::names::names_reply;
 ghost use lib.ListN.{length};
-ghost use Rattle.lister.specs.Listed.{Refused, Listed};
+ghost use Rattle.lister.specs.ListingPromise.{Refused, ListingPromise};
 ghost use Rattle.lister.specs.Asked.{SoundBoth, ListAsked};
 
 // "Every refusal zeroes all lent output."
@@ -36,7 +36,7 @@ fn listed(
     out: &mut [u8],
 ) -> Reply
     requires { ⌜ ListAsked (now words) (now dir) (now names) (now table) rows ⌝ }
-    ensures { λ r. ⌜ Listed (now (words .entry)) (now (names .entry)) (length (now (table .entry))) (length (now (out .entry))) r (now (table .exit)) (now (out .exit)) ⌝ }
+    ensures { λ r. ⌜ ListingPromise (now (words .entry)) (now (names .entry)) (length (now (table .entry))) (length (now (out .entry))) r (now (table .exit)) (now (out .exit)) ⌝ }
 {
     let size = listing(words, dir, names, table, rows, out);
     if out.len() < size {
@@ -53,7 +53,7 @@ fn listed(
 // Words and names are sound: the table of the program, where it has room, and its listing by the same directory.
 fn accepted(words: &[u16], names: &[u8], table: &mut [u16], out: &mut [u8]) -> Reply
     requires { ⌜ SoundBoth (now words) (now names) ⌝ }
-    ensures { λ r. ⌜ Listed (now (words .entry)) (now (names .entry)) (length (now (table .entry))) (length (now (out .entry))) r (now (table .exit)) (now (out .exit)) ⌝ }
+    ensures { λ r. ⌜ ListingPromise (now (words .entry)) (now (names .entry)) (length (now (table .entry))) (length (now (out .entry))) r (now (table .exit)) (now (out .exit)) ⌝ }
 {
     let mut dir = [0u16; 9550];
     let analysed = tabled(words, &mut dir, table);
@@ -65,7 +65,7 @@ fn accepted(words: &[u16], names: &[u8], table: &mut [u16], out: &mut [u8]) -> R
 
 // "After all faults in the words, writer and lister check the names"; "then room (9), .. rows before listing".
 pub fn list(words: &[u16], names: &[u8], table: &mut [u16], out: &mut [u8]) -> Reply
-    ensures { λ r. ⌜ Listed (now (words .entry)) (now (names .entry)) (length (now (table .entry))) (length (now (out .entry))) r (now (table .exit)) (now (out .exit)) ⌝ }
+    ensures { λ r. ⌜ ListingPromise (now (words .entry)) (now (names .entry)) (length (now (table .entry))) (length (now (out .entry))) r (now (table .exit)) (now (out .exit)) ⌝ }
 {
     let scanned = scan(words);
     if scanned.number != ACCEPTED {

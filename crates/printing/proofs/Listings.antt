@@ -7,7 +7,7 @@ use lib.ListN.{take}
 use borrow.Author.Tests.{eq-eqb, ne-eqb}
 use Rattle.program.specs.Reply.{accepted}
 use Rattle.program.specs.declared.reply.Reply.{Reply}
-use Rattle.lister.specs.Listed.{Refused, Listed, faulty, misnamed, unlisted, over, listed}
+use Rattle.lister.specs.ListingPromise.{Refused, ListingPromise, faulty, misnamed, unlisted, over, listed}
 use Rattle.printing.specs.Printed.{refusedLine, tableRoom, listingRoom, PrintedOf}
 
 -- "0 when refused"
@@ -15,14 +15,14 @@ refused-count : {size room number place : ℕ} {reply : Reply} {table out : List
 refused-count z = ap (λ (r : Reply). r .count) (z .reply-is)
 
 -- no more bytes are counted than there is room for
-pub count-fits : {words names : List ℕ} {size room : ℕ} {reply : Reply} {table out : List ℕ} → Listed words names size room reply table out → reply .count ≤ room
+pub count-fits : {words names : List ℕ} {size room : ℕ} {reply : Reply} {table out : List ℕ} → ListingPromise words names size room reply table out → reply .count ≤ room
 count-fits (faulty number place f z) = omega (arith, refused-count z)
 count-fits (misnamed p number place f w z) = omega (arith, refused-count z)
 count-fits (unlisted p number place zeros f w a d z) = omega (arith, refused-count z)
 count-fits (over p entries full a l z) = omega (arith, refused-count z)
 count-fits (listed p entries a l e g) = omega (arith, ap (λ (r : Reply). r .count) e)
 
-module _ {words names table out : List ℕ} {reply : Reply} (l : Listed words names tableRoom listingRoom reply table out) where
+module _ {words names table out : List ℕ} {reply : Reply} (l : ListingPromise words names tableRoom listingRoom reply table out) where
   pub listing-shown : reply .number ≡ accepted → PrintedOf words names (take (reply .count) out)
   listing-shown e = record { reply = reply; table = table; out = out; listed = l; shows = rw (eq-eqb (reply .number) accepted e) refl }
 

@@ -11,7 +11,7 @@ use Rattle.text.specs.Decimal.{decimal}
 use Rattle.cells.specs.Table.{wrong, right, Scenario}
 use Rattle.reader.specs.Read.{readOf}
 use Rattle.written_lines.specs.Tokens.{line}
-use Rattle.lister.specs.Listed.{Listed}
+use Rattle.lister.specs.ListingPromise.{ListingPromise}
 
 -- `refused`
 abbrev pub refusedWord : List ℕ
@@ -37,7 +37,7 @@ pub record PrintedOf (words names printed : List ℕ) : Type 0 where
   pub reply : Reply
   pub table : List ℕ
   pub out : List ℕ
-  pub listed : Listed words names tableRoom listingRoom reply table out
+  pub listed : ListingPromise words names tableRoom listingRoom reply table out
   pub shows : printed ≡ shown reply out
 
 -- of a text: the reader has "room for all words and names", so that what it finds decides

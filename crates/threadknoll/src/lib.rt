@@ -17,7 +17,7 @@ ghost use Rattle.table.specs.Table.{Promise};
 ghost use Rattle.reader.specs.Read.{maxBytes};
 ghost use Rattle.reader.specs.Read as reads;
 ghost use Rattle.writer.specs.Write as writes;
-ghost use Rattle.lister.specs.Listed.{Listed};
+ghost use Rattle.lister.specs.ListingPromise.{ListingPromise};
 ghost use Rattle.threadknoll.specs.Told.{told};
 
 // "At most 40,960 bytes."
@@ -115,7 +115,7 @@ pub extern "C" fn threadknoll_list(
     place: &mut usize,
     count: &mut usize,
 ) -> u16
-    ensures { λ number. ⌜ Listed (now (words .entry)) (now (names .entry)) (length (now (table .entry))) (length (now (out .entry))) (told number (now (place .exit)) (now (count .exit))) (now (table .exit)) (now (out .exit)) ⌝ }
+    ensures { λ number. ⌜ ListingPromise (now (words .entry)) (now (names .entry)) (length (now (table .entry))) (length (now (out .entry))) (told number (now (place .exit)) (now (count .exit))) (now (table .exit)) (now (out .exit)) ⌝ }
 {
     let reply = list(words, names, table, out);
     *place = reply.place;

@@ -1,6 +1,6 @@
 -- `lister::list::accepted` meets its contract: the table has room and is listed, or the refusal is the analysis'. Assumes nothing.
 use mathlib.Core.Path.{sym}
-use Rattle.lister.specs.Listed.{unlisted}
+use Rattle.lister.specs.ListingPromise.{unlisted}
 use Rattle.lister.proofs.Replies.{analysis-refused, analysis-filled}
 use borrow.Author.Needs.{needs}
 use Rattle.lister.proofs.list.accepted.Statement.{statement}

@@ -1,7 +1,7 @@
 -- `lister::list::list` meets its contract: faults first, then the names, then the table and its listing. Assumes nothing.
 use native.Mathlib.Omega.{arith}
 use Rattle.program.proofs.FaultNumbers.{accepted-sound}
-use Rattle.lister.specs.Listed.{faulty, misnamed}
+use Rattle.lister.specs.ListingPromise.{faulty, misnamed}
 use Rattle.lister.proofs.Replies.{scan-faulty, words-there, predicates-counted, functions-counted, symbols-few, names-replied, names-faulty, names-sound}
 use borrow.Author.Needs.{needs}
 use Rattle.lister.proofs.list.list.Statement.{statement}

@@ -5,7 +5,7 @@ use mathlib.Core.Path.{sym, ap, _∙_}
 use lib.ListN.{length}
 use Rattle.program.specs.Reply.{done}
 use Rattle.text.proofs.Puts.{put-length, put-count, put-roomed, put-over}
-use Rattle.lister.specs.Listed.{over, listed}
+use Rattle.lister.specs.ListingPromise.{over, listed}
 use Rattle.lister.proofs.Replies.{listing-asked}
 use borrow.Author.Needs.{needs}
 use Rattle.lister.proofs.list.listed.Statement.{statement}

@@ -31,22 +31,22 @@ pub record Rows (words names : List ℕ) (size : ℕ) (table : List ℕ) (p : Pr
   pub analysed : Promise words size (done (length entries)) table
 
 -- of so many words for the table and so many bytes for the listing
-pub data Listed (words names : List ℕ) (size room : ℕ) (reply : Reply) (table out : List ℕ) : Type 0 where
+pub data ListingPromise (words names : List ℕ) (size room : ℕ) (reply : Reply) (table out : List ℕ) : Type 0 where
   faulty : (number place : ℕ) → faults words ≡ fault number place → Refused size room number place reply table out
-      → Listed words names size room reply table out
+      → ListingPromise words names size room reply table out
   -- "After all faults in the words, writer and lister check the names"
   misnamed : (p : Program) (number place : ℕ) → faults words ≡ sound p → namesFor p names ≡ wrong number place
-      → Refused size room number place reply table out → Listed words names size room reply table out
+      → Refused size room number place reply table out → ListingPromise words names size room reply table out
   -- "then room (9), .. rows before listing": what the analysis refuses is refused alike
   unlisted : (p : Program) (number place : ℕ) (zeros : List ℕ) → faults words ≡ sound p → namesFor p names ≡ right names
       → Promise words size (refused number place) zeros → (number ≡ accepted → ⊥)
-      → Refused size room number place reply table out → Listed words names size room reply table out
+      → Refused size room number place reply table out → ListingPromise words names size room reply table out
   -- "the result exceeds the room": "the room: .. bytes"
   over : (p : Program) (entries : List Entry) (full : List ℕ) → Rows words names size full p entries
       → room < length (listingOf p names entries)
-      → Refused size room noRoom room reply table out → Listed words names size room reply table out
+      → Refused size room noRoom room reply table out → ListingPromise words names size room reply table out
   -- "a count of what was written (.. writer and lister: bytes ..)", "lent output past what was written is 0"
   listed : (p : Program) (entries : List Entry) → Rows words names size table p entries
       → length (listingOf p names entries) ≤ room
       → reply ≡ done (length (listingOf p names entries)) → out ≡ inRoom room (listingOf p names entries)
-      → Listed words names size room reply table out
+      → ListingPromise words names size room reply table out
