@@ -32,17 +32,20 @@ fn set(name: &str) -> String {
 /// `rt staticlib` compiles for x86-64 alone. An archive of other sources than these would be measured unseen.
 fn link_archive(usual: PathBuf, sources_changed: SystemTime) {
     println!("cargo::rustc-check-cfg=cfg(archive)");
+    if set("CARGO_CFG_TARGET_ARCH") != "x86_64" {
+        return;
+    }
     println!("cargo::rerun-if-env-changed=THREADKNOLL_LIBRARY");
     let folder = std::env::var("THREADKNOLL_LIBRARY").map(PathBuf::from).unwrap_or(usual);
     let file = folder.join("libthreadknoll.a");
     println!("cargo::rerun-if-changed={}", file.display());
-    let made = std::fs::metadata(&file).and_then(|file| file.modified());
-    if let (Ok(made), "x86_64") = (made, set("CARGO_CFG_TARGET_ARCH").as_str()) {
-        if made < sources_changed {
-            println!("cargo::warning=the archive is older than the sources: `rt staticlib threadknoll` makes it again");
-        }
-        println!("cargo::rustc-cfg=archive");
-        println!("cargo::rustc-link-search=native={}", folder.display());
-        println!("cargo::rustc-link-lib=static=threadknoll");
+    let Ok(made) = std::fs::metadata(&file).and_then(|file| file.modified()) else {
+        return;
+    };
+    if made < sources_changed {
+        println!("cargo::warning=the archive is older than the sources: `rt staticlib threadknoll` makes it again");
     }
+    println!("cargo::rustc-cfg=archive");
+    println!("cargo::rustc-link-search=native={}", folder.display());
+    println!("cargo::rustc-link-lib=static=threadknoll");
 }
