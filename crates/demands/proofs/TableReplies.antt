@@ -6,14 +6,13 @@ use mathlib.Core.Logic.{_⊎_, inl, inr, _↔_}
 use mathlib.Core.List.{List}
 use lib.ListN.{length, replicate}
 use Rattle.program.specs.Program.{Program}
-use Rattle.program.specs.Faults.{Found, fault, sound, faults}
+use Rattle.program.specs.Faults.{sound, faults}
 use Rattle.program.specs.Reply.{accepted, noRoom, withdrawn}
 use Rattle.program.specs.declared.reply.Reply.{Reply}
 use Rattle.program.proofs.FaultNumbers.{FaultNumber, fault-number}
-use Rattle.table.specs.Promise.{faulty as by-fault, listed as by-table, full}
-use Rattle.table.specs.Table.{Entry, roomIn, TableOf, MoreThan, Promise}
+use Rattle.table.specs.Table.{modesOf, Entry, roomIn, TableOf, MoreThan}
 use Rattle.program.proofs.FoundLaws.{fault-or-sound, sound-same}
-use Rattle.table.proofs.Promise.{table-once, promise-unique, promise-met, no-room-more, accepted-listed, refused-zeros, never-withdrawn}
+use Rattle.table.proofs.Promise.{modes-computes, table-once, no-room-more, never-withdrawn}
 use Rattle.cells.specs.Table.{right}
 use Rattle.cells.proofs.Readings.{wrong-or-right}
 use Rattle.lister.specs.Listing.{listingOf}
@@ -23,44 +22,13 @@ use Rattle.round_trips.proofs.ReadFaults.{FaultyBy}
 use Rattle.round_trips.proofs.WriteFaults.{names-faults}
 use Rattle.demands.specs.Promises.{Analyses, AnalyseLarger, Lists, ListLarger}
 use Rattle.demands.specs.Replies.{Replies}
+use Rattle.demands.proofs.LeastTables.{sound-refused, tabling-replies}
 
 numbers : {r r′ : Reply} → r ≡ r′ → r .number ≡ r′ .number
 numbers e = ap (λ (r : Reply). r .number) e
 
-module _ (words : List ℕ) (size : ℕ) where
-  analyse-room : (r : Reply) (t : List ℕ) → Promise words size r t → (r .number ≡ noRoom) ↔ AnalyseLarger words size
-  analyse-room r t promised = found (faults words) refl
-    where
-      found : (o : Found Program) → faults words ≡ o → (r .number ≡ noRoom) ↔ AnalyseLarger words size
-      found (fault n q) e =
-          let same = numbers (promise-unique words size _ _ _ _ promised (by-fault n q e refl refl) .0) in
-          let h = fault-number words n q e in
-          (λ d. absurd (omega arith), λ (p, s, m). absurd (fault-or-sound _ e s))
-      found (sound p) e =
-          (λ d. (p, e, no-room-more words size r t p e promised .0 d), λ (p′, s, m). no-room-more words size r t p′ s promised .1 m)
-
-  analyse-place : (r : Reply) (t : List ℕ) → Promise words size r t → r .number ≡ accepted → r .place ≡ 0
-  analyse-place r t promised d = ap (λ (r : Reply). r .place) (accepted-listed words size r t promised d .4)
-
-  pub analysing-replies : Replies (Analyses words size) (replicate size 0) (AnalyseLarger words size)
-  analysing-replies =
-      let (r, t, promised) = promise-met words size in
-      record {
-        reply = r;
-        left = t;
-        promised = promised;
-        only = λ r′ t′ promised′. promise-unique words size r′ r t′ t promised′ promised;
-        accepted-place = analyse-place r t promised;
-        refused-zeros = λ n. let (z, c) = refused-zeros words size r t promised n in (c, z);
-        no-room = analyse-room r t promised;
-        never-withdrawn = never-withdrawn words size r t promised;
-      }
-
-  -- a sound program is refused only where there is no room
-  sound-refused : (p : Program) → faults words ≡ sound p → (r : Reply) (t : List ℕ) → Promise words size r t → (r .number ≡ accepted → ⊥) → r .number ≡ noRoom
-  sound-refused p e r t (by-fault n q f d z) h = absurd (fault-or-sound _ f e)
-  sound-refused p e r t (by-table p′ es f k l d z) h = absurd (h (numbers d))
-  sound-refused p e r t (full p′ f k d z) h = numbers d
+pub analysing-replies : (words : List ℕ) (size : ℕ) → Replies (Analyses words size) (replicate size 0) (AnalyseLarger words size)
+analysing-replies words size = tabling-replies modesOf modes-computes (faults words) size (fault-number words)
 
 module _ (words names : List ℕ) (size room : ℕ) where
   abbrev listZeros : List ℕ × List ℕ
@@ -93,7 +61,7 @@ module _ (words names : List ℕ) (size room : ℕ) where
       named : (p′ : Program) → faults words ≡ sound p′ → namesFor p′ names ≡ right names → ⊥
       named p′ s m = wrong-or-right _ (rw (sound-same _ f s) at w) m
   list-answer r t o (unlisted p n q ze f w a d z) =
-      refusal z d (λ e. (p, f, w, inl (no-room-more words size _ ze p f a .0 e)), λ _. sound-refused words size p f _ ze a d) (never-withdrawn words size _ ze a)
+      refusal z d (λ e. (p, f, w, inl (no-room-more words size _ ze p f a .0 e)), λ _. sound-refused modesOf modes-computes (faults words) size p f _ ze a d) (never-withdrawn words size _ ze a)
   list-answer r t o (over p es fu a l z) =
       refusal z (λ d. omega arith) (λ _. (p, a .program, a .named, inr (es, a .rows, l)), λ _. refl) (λ d. omega arith)
   list-answer r t o (listed p es a l e g) = record {

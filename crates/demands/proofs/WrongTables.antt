@@ -9,6 +9,7 @@ use lib.Seq.{getD-take, getD-drop}
 use Rattle.terms.specs.Term.{Term}
 use Rattle.marks.specs.Modes.{modes}
 use Rattle.marks.proofs.Modes.{modes-sound}
+use Rattle.program.specs.Limits.{rowSize}
 use Rattle.program.specs.Program.{Program}
 use Rattle.program.specs.Reply.{done}
 use Rattle.program.specs.declared.reply.Reply.{Reply}
@@ -17,7 +18,7 @@ use Rattle.table.specs.Table.{rowWords, tableWords}
 use Rattle.table.proofs.Promise.{promise-unique}
 use Rattle.runs.specs.Cover.{Covered}
 use Rattle.runs.specs.TableRows.{StandsIn}
-use Rattle.demands.specs.Wrong.{Analysis, Keeps, EachRow, AllRows, roundOf, changed}
+use Rattle.demands.specs.Wrong.{Analyser, Keeps, EachRow, AllRows, roundOf, changed}
 use Rattle.demands.specs.SamplePrograms.{legs-words, legs-rows, late-words, late-rows}
 use Rattle.demands.proofs.StarredSamples.{legs-leaves, late-leaves}
 
@@ -32,14 +33,14 @@ legs-left = tableWords legs-rows ++ replicate 15 0
 abbrev pub late-left : List ℕ
 late-left = tableWords late-rows ++ replicate 5 0
 
-pub on-legs : (a : Analysis) → Keeps a legs-words lent → (a legs-words lent .reply ≡ done 7) × (a legs-words lent .table ≡ legs-left)
+pub on-legs : (a : Analyser) → Keeps a legs-words lent → (a legs-words lent .reply ≡ done 7) × (a legs-words lent .table ≡ legs-left)
 on-legs a keeps = promise-unique legs-words 50 _ _ _ _ keeps (legs-leaves 50 (omega arith))
 
-pub on-late : (a : Analysis) → Keeps a late-words lent → (a late-words lent .reply ≡ done 9) × (a late-words lent .table ≡ late-left)
+pub on-late : (a : Analyser) → Keeps a late-words lent → (a late-words lent .reply ≡ done 9) × (a late-words lent .table ≡ late-left)
 on-late a keeps = promise-unique late-words 50 _ _ _ _ keeps late-leaves
 
 -- what holds of each row that is left holds of each row of the one table
-module _ (P : List ℕ → Type 0) (a : Analysis) where
+module _ (P : List ℕ → Type 0) (a : Analyser) where
   pub each-on-legs : AllRows P (a legs-words lent) → Keeps a legs-words lent → EachRow P 7 legs-left
   each-on-legs each keeps = let (r, t) = on-legs a keeps in rw (t, ap (λ (r : Reply). r .count) r) at each
 
@@ -51,7 +52,7 @@ pub each-changed : (P : List ℕ → Type 0) (round mask : List ℕ → ℕ)
     → ((words rest : List ℕ) → P (round words ∷ getD words 1 0 ∷ getD words 2 0 ∷ getD words 3 0 ∷ mask words ∷ rest))
     → (n : ℕ) (words : List ℕ) → EachRow P n (changed round mask n words)
 each-changed P round mask h zero words = tt
-each-changed P round mask h (suc n) words = (h words _, each-changed P round mask h n (drop 5 words))
+each-changed P round mask h (suc n) words = (h words _, each-changed P round mask h n (drop rowSize words))
 
 -- the row with no mark
 abbrev pub anyRow : Row ℕ → Row ℕ
@@ -75,7 +76,7 @@ stands-any (suc n) words row (inl e) = inl (three words (rowWords row) e ∙ unm
     unmarked (call s M) = refl
     unmarked (cont n i M) = refl
     unmarked (solution s M) = refl
-stands-any (suc n) words row (inr h) = inr (stands-any n (drop 5 words) row h)
+stands-any (suc n) words row (inr h) = inr (stands-any n (drop rowSize words) row h)
 
 pub covered-any : (p : Program) (s M : ℕ) (A : Term) → Covered modes p s M A → Covered modes p s 0 A
 covered-any p s M A by =

@@ -5,9 +5,10 @@ use mathlib.Core.Logic.{_⊎_}
 use mathlib.Core.List.{List}
 use lib.ListN.{length, getD, take}
 use Rattle.program.specs.Program.{Program}
-use Rattle.program.specs.Faults.{sound, faults}
+use Rattle.program.specs.Faults.{Found, sound, faults}
 use Rattle.program.specs.declared.reply.Reply.{Reply}
-use Rattle.table.specs.Table.{Entry, roomIn, TableOf, MoreThan, Promise}
+use Rattle.table.specs.Analysis.{Analysis, roomOf, Exceeds}
+use Rattle.table.specs.Table.{modesOf, Entry, roomIn, TableOf, MoreThan, Promise}
 use Rattle.text.specs.Name.{nameBytes}
 use Rattle.cells.specs.Table.{Read, right, Scenario}
 use Rattle.reader.specs.Read as reads
@@ -56,9 +57,12 @@ ReadLarger text words names =
 abbrev pub WriteLarger : List ℕ → List ℕ → ℕ → Type 0
 WriteLarger words names room = (text : List ℕ) × (writes.writeOf words names ≡ right text) × (room < length text)
 
--- the least set of rows
+-- the least set of rows, of what is found in the input
+abbrev pub Larger : {X : Type 0} → (X → Analysis) → Found X → ℕ → Type 0
+Larger {X} analysis found size = (p : X) × (found ≡ sound p) × Exceeds (analysis p) (roomOf (analysis p .size) size)
+
 abbrev pub AnalyseLarger : List ℕ → ℕ → Type 0
-AnalyseLarger words size = (p : Program) × (faults words ≡ sound p) × MoreThan p (roomIn size)
+AnalyseLarger words = Larger modesOf (faults words)
 
 -- the least set of rows, or the listing of it
 abbrev pub ListLarger : List ℕ → List ℕ → ℕ → ℕ → Type 0

@@ -1,26 +1,26 @@
 -- The rows that stand in the words of a table, and what an accepted table is trusted for.
-use Prim.Native.Nat.{ℕ, zero, suc}
+use Prim.Native.Nat.{ℕ}
 use mathlib.Core.Path.{_≡_}
-use mathlib.Core.Logic.{_⊎_, _↔_}
+use mathlib.Core.Logic.{_↔_}
 use mathlib.Core.List.{List}
-use lib.ListN.{take, drop}
 use Rattle.terms.specs.Term.{Term, Subst, sub, Occ, Ground}
 use Rattle.terms.specs.Mask.{Has}
 use Rattle.marks.specs.Modes.{modes}
 use Rattle.program.specs.Program.{Nth, Program}
+use Rattle.program.specs.Limits.{rowSize}
 use Rattle.program.specs.Shapes.{shapes}
 use Rattle.program.specs.Faults.{faults, sound}
 use Rattle.program.specs.declared.reply.Reply.{Reply}
 use Rattle.table.specs.Rules.{Row, call}
 use Rattle.table.specs.Rounds.{Least}
+use Rattle.table.specs.Analysis.{StandsAmong}
 use Rattle.table.specs.Table.{rowWords}
 use Rattle.runs.specs.Run.{Called}
 use Rattle.runs.specs.Cover.{CoversRuns}
 
 -- the row is one of the first n: "A row is five words: round, kind, a, b, mask."
 abbrev pub StandsIn : ℕ → List ℕ → Row ℕ → Type 0
-StandsIn zero words row = ⊥
-StandsIn (suc n) words row = (take 4 (drop 1 words) ≡ rowWords row) ⊎ StandsIn n (drop 5 words) row
+StandsIn = StandsAmong rowWords rowSize
 
 -- what is promised to the customer of every accepted reply
 pub record Trusted (words : List ℕ) (reply : Reply) (table : List ℕ) : Type 1 where

@@ -4,7 +4,7 @@ use native.Mathlib.Decide.{ℕ-discrete}
 use native.Mathlib.Omega.{arith}
 use mathlib.Core.Path.{_≡_, refl}
 use mathlib.Core.Logic.{_↔_}
-use mathlib.Core.List.{List, _++_, map, List·Memᴰ}
+use mathlib.Core.List.{List, _++_, List·Memᴰ}
 use lib.ListN.{length, replicate}
 use Rattle.marks.specs.Modes.{modes}
 use Rattle.program.specs.Program.{Program}
@@ -12,17 +12,15 @@ use Rattle.program.specs.Reply.{accepted, noRoom, withdrawn, done}
 use Rattle.program.specs.Faults.{sound, faults}
 use Rattle.program.specs.declared.reply.Reply.{Reply}
 use Rattle.program.specs.Limits.{rowSize}
-use Rattle.program.specs.Lists.{Distinct}
 use Rattle.program.proofs.FaultNumbers.{fault-number}
 use Rattle.table.specs.Rules.{Row, call, cont, solution, Row-discrete}
-use Rattle.table.specs.Rounds.{First, Least, Appears}
 use Rattle.table.specs.Analysis.{Before}
 use Rattle.table.specs.Table.{rowWords, modesOf, Entry, entryWords, tableWords, Ascending, roomIn, TableOf, MoreThan, Promise}
 use Rattle.table.proofs.RuleLaws.{gives-finitary}
 use Rattle.table.proofs.Computed.{given, rowsAt}
 use Rattle.table.proofs.ComputedLaws.{given-all}
 use Rattle.table.proofs.ModesComputed.{modes-lists}
-use Rattle.table.proofs.Tables.{Computes, one-table, some-first, least-listed, rows-once, rounds-below, exceeds-length, computedTable, computed-is-table}
+use Rattle.table.proofs.Tables.{Computes, one-table, exceeds-length, computedTable, computed-is-table}
 use Rattle.table.proofs.Ordering.{ascends-append, all-words-append, all-words-length}
 use Rattle.table.proofs.PromiseLaws.{accepted-is-table, refusal-zeros, other-never, one-reply, no-room-exceeds, some-reply}
 
@@ -68,9 +66,6 @@ module _ (p : Program) where
   pub table-once : (es fs : List Entry) → TableOf p es → TableOf p fs → es ≡ fs
   table-once = one-table (modesOf p)
 
-  pub appears-first : (row : Row ℕ) → Appears modes p (p .ground) row → (k : ℕ) × First modes p (p .ground) k row
-  appears-first = some-first (modesOf p) (modes-computes p)
-
   -- the table of a small program is computed: that of round k, where round k + 1 computes to the same rows
   abbrev pub tableAt : ℕ → List Entry
   tableAt = computedTable (modesOf p) (modes-computes p)
@@ -78,21 +73,8 @@ module _ (p : Program) where
   pub computed-table : (k : ℕ) (entries : List Entry) → rowsAt modes modes-lists p (p .ground) (suc k) ≡ rowsAt modes modes-lists p (p .ground) k → tableAt k ≡ entries → TableOf p entries
   computed-table = computed-is-table (modesOf p) (modes-computes p)
 
-  module _ (entries : List Entry) (t : TableOf p entries) where
-    abbrev rowsOf : List (Row ℕ)
-    rowsOf = map (λ (e : Entry). e .row) entries
-
-    pub table-least : (row : Row ℕ) → Least modes p (p .ground) row ↔ List·Memᴰ row rowsOf
-    table-least = least-listed (modesOf p) (modes-computes p) entries t
-
-    pub row-once : Distinct rowsOf
-    row-once = rows-once (modesOf p) (modes-computes p) entries t
-
-    pub round-below : (e : Entry) → List·Memᴰ e entries → e .round < length entries
-    round-below = rounds-below (modesOf p) (modes-computes p) entries t
-
-    pub more-than-length : (n : ℕ) → MoreThan p n ↔ (n < length entries)
-    more-than-length = exceeds-length (modesOf p) (modes-computes p) entries t
+  pub more-than-length : (entries : List Entry) → TableOf p entries → (n : ℕ) → MoreThan p n ↔ (n < length entries)
+  more-than-length = exceeds-length (modesOf p) (modes-computes p)
 
 module _ (words : List ℕ) (size : ℕ) where
   pub promise-unique : (r r′ : Reply) (t t′ : List ℕ) → Promise words size r t → Promise words size r′ t′ → (r ≡ r′) × (t ≡ t′)

@@ -1,13 +1,14 @@
 -- Laws of the table of an analysis that computes: there is one table, its rows are the least set, each once and with a round below their number; and the rows of the last round are a table.
-use Prim.Native.Nat.{ℕ, suc, _≤_, _<_}
+use Prim.Native.Nat.{ℕ, suc, _-_, _≤_, _<_}
 use native.Mathlib.Omega.{arith}
 use native.Mathlib.Decide.{decLe}
-use mathlib.Core.Path.{_≡_, refl, subst}
+use mathlib.Core.Path.{_≡_, refl, sym, ap, subst, _∙_}
 use mathlib.Core.Logic.{_⊎_, inl, inr, _↔_}
-use mathlib.Core.List.{List, [], _∷_, map, List·Memᴰ, Memᴰ·cast, Memᴰ·map}
-use lib.ListN.{length, length-map}
+use mathlib.Core.List.{List, [], _∷_, _++_, append-assoc, map, List·Memᴰ, List·Memᴰ·head, List·Memᴰ·tail, List·Memᴰ·cases-cons, List·Memᴰ·not-nil, Memᴰ·cast, Memᴰ·map}
+use lib.ListN.{length, take, drop, length-map}
+use lib.Seq.{take-at, drop-at}
 use Rattle.table.specs.Rounds.{InRound, FirstIn, LeastOf, InSome}
-use Rattle.table.specs.Analysis.{Analysis, Dated, Ascends, IsTable, Exceeds}
+use Rattle.table.specs.Analysis.{Analysis, Dated, allWords, Ascends, StandsAmong, IsTable, Exceeds}
 use Rattle.program.specs.Lists.{Distinct}
 use Rattle.table.proofs.Lists.{has-map}
 use Rattle.table.proofs.Distinct.{distinct-length, distinct-map}
@@ -83,6 +84,45 @@ module _ (A : Analysis) (c : Computes A) where
     -- a table that has room, and one that has not, shut each other out
     pub fits-or-exceeds : (n : ℕ) → length entries ≤ n → Exceeds A n → ⊥
     fits-or-exceeds n l h = let more = exceeds-length n .0 h in omega arith
+
+-- the rows that stand in the words of a table are exactly the rows of the least set
+module _ (A : Analysis) (c : Computes A) where
+  first-row : (k : ℕ) (row : A .Row) (words rest : List ℕ) → take (A .size - 1) (drop 1 (((k ∷ A .words row) ++ words) ++ rest)) ≡ A .words row
+  first-row k row words rest =
+      ap (take (A .size - 1)) (append-assoc (A .words row) words rest) ∙ take-at (A .words row) (words ++ rest) (A .size - 1) (omega (arith, c .sized row))
+
+  rows-behind : (k : ℕ) (row : A .Row) (words rest : List ℕ) → drop (A .size) (((k ∷ A .words row) ++ words) ++ rest) ≡ words ++ rest
+  rows-behind k row words rest = ap (drop (A .size)) (append-assoc (k ∷ A .words row) words rest) ∙ drop-at (k ∷ A .words row) (words ++ rest) (A .size) (c .sized row)
+
+  entry-stands : (entries : List (Dated (A .Row))) (rest : List ℕ) (e : Dated (A .Row)) → List·Memᴰ e entries
+      → StandsAmong (A .words) (A .size) (length entries) (allWords (A .words) entries ++ rest) (e .row)
+  entry-stands [] rest e m = absurd (List·Memᴰ·not-nil m)
+  entry-stands (f ∷ entries) rest e m = first (λ h. entry-stands entries rest e h) (List·Memᴰ·cases-cons m)
+    where
+      first : (List·Memᴰ e entries → StandsAmong (A .words) (A .size) (length entries) (allWords (A .words) entries ++ rest) (e .row)) → (e ≡ f) ⊎ List·Memᴰ e entries
+          → StandsAmong (A .words) (A .size) (length (f ∷ entries)) (allWords (A .words) (f ∷ entries) ++ rest) (e .row)
+      first behind (inl d) = inl (rw d (first-row (f .round) (f .row) (allWords (A .words) entries) rest))
+      first behind (inr m′) = inr (rw (rows-behind (f .round) (f .row) (allWords (A .words) entries) rest) (behind m′))
+
+  stands-entry : (entries : List (Dated (A .Row))) (rest : List ℕ) (row : A .Row) → StandsAmong (A .words) (A .size) (length entries) (allWords (A .words) entries ++ rest) row
+      → (e : Dated (A .Row)) × List·Memᴰ e entries × (e .row ≡ row)
+  stands-entry [] rest row s = absurd s
+  stands-entry (f ∷ entries) rest row (inl d) =
+      (f, List·Memᴰ·head refl, c .one-row (f .row) row (sym (first-row (f .round) (f .row) (allWords (A .words) entries) rest) ∙ d))
+  stands-entry (f ∷ entries) rest row (inr s) =
+      let (e, m, d) = stands-entry entries rest row (rw (rows-behind (f .round) (f .row) (allWords (A .words) entries) rest) at s) in (e, List·Memᴰ·tail m, d)
+
+  pub stands-least : (entries : List (Dated (A .Row))) (rest : List ℕ) → IsTable A entries → (row : A .Row)
+      → StandsAmong (A .words) (A .size) (length entries) (allWords (A .words) entries ++ rest) row ↔ LeastOf (A .start) (A .Rules) row
+  stands-least entries rest t row = (to, from)
+    where
+      to : StandsAmong (A .words) (A .size) (length entries) (allWords (A .words) entries ++ rest) row → LeastOf (A .start) (A .Rules) row
+      to s = let (e, m, d) = stands-entry entries rest row s in rw (← d) (least-some (A .start) (A .Rules) (c .finitary) (e .row) .1 (e .round, t .only e m .0))
+
+      from : LeastOf (A .start) (A .Rules) row → StandsAmong (A .words) (A .size) (length entries) (allWords (A .words) entries ++ rest) row
+      from l =
+          let (k, f) = some-first A c row (least-some (A .start) (A .Rules) (c .finitary) row .0 l) in
+          entry-stands entries rest (record { round = k; row = row }) (t .all k row f)
 
 -- entries of the rounds up to the last, in ascending order, are the table
 pub last-is-table : (A : Analysis) → Finitary (A .Rules) → (k : ℕ) → Within (InRound (A .start) (A .Rules) (suc k)) (InRound (A .start) (A .Rules) k)

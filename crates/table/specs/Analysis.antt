@@ -1,9 +1,9 @@
 -- What a table is a table of, whatever its rows and its rules: the rows of the least set, each with its round, in the order of their words; and when they are more than the room.
-use Prim.Native.Nat.{ℕ, _/_, _<_, min}
+use Prim.Native.Nat.{ℕ, zero, suc, _-_, _/_, _<_, min}
 use mathlib.Core.Path.{_≡_}
 use mathlib.Core.Logic.{_⊎_}
 use mathlib.Core.List.{List, [], _∷_, _++_, List·Memᴰ}
-use lib.ListN.{length}
+use lib.ListN.{length, take, drop}
 use Rattle.program.specs.Limits.{maxRows}
 use Rattle.program.specs.Lists.{Distinct}
 use Rattle.table.specs.Rounds.{FirstIn, InSome}
@@ -42,6 +42,11 @@ module _ {R : Type 0} (words : R → List ℕ) where
   abbrev pub Ascends : List (Dated R) → Type 0
   Ascends [] = Unit {0}
   Ascends (e ∷ entries) = ((f : Dated R) → List·Memᴰ f entries → Before (datedWords e) (datedWords f)) × Ascends entries
+
+-- the row is one of the first n that stand in these words, each of `size` words, its round first
+abbrev pub StandsAmong : {R : Type 0} → (R → List ℕ) → ℕ → ℕ → List ℕ → R → Type 0
+StandsAmong words size zero ws row = ⊥
+StandsAmong words size (suc n) ws row = (take (size - 1) (drop 1 ws) ≡ words row) ⊎ StandsAmong words size n (drop size ws) row
 
 -- "The room in rows is the length over" the size of a row, "rounded down, but at most 4,096."
 abbrev pub roomOf : ℕ → ℕ → ℕ
