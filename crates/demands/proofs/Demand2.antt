@@ -12,7 +12,7 @@ use Rattle.program.specs.Reply.{accepted, done}
 use Rattle.program.specs.declared.reply.Reply.{Reply}
 use Rattle.table.specs.Rules.{Row}
 use Rattle.table.specs.Rounds.{Least}
-use Rattle.table.specs.Table.{modesOf, roomIn, MoreThan}
+use Rattle.table.specs.Table.{modeAnalysis, roomIn, MoreThan}
 use Rattle.program.proofs.FoundLaws.{sound-same}
 use Rattle.table.proofs.Promise.{modes-computes}
 use Rattle.runs.specs.TableRows.{StandsIn}
@@ -32,8 +32,8 @@ use Rattle.demands.proofs.RoundTrips.{read-then-write, write-then-read}
 module _ (words : List ℕ) (p : Program) (says : faults words ≡ sound p)
     (size : ℕ) (reply : Reply) (table : List ℕ) (promised : Analyses words size reply table) where
   -- an accepted table is the least set
-  pub table-is-least-set : reply .number ≡ accepted → LeastTable (modesOf p) size reply table
-  table-is-least-set = accepted-least modesOf modes-computes (faults words) size p says reply table promised
+  pub table-is-least-set : reply .number ≡ accepted → LeastTable (modeAnalysis p) size reply table
+  table-is-least-set = accepted-least modeAnalysis modes-computes (faults words) size p says reply table promised
 
   -- so the rows that stand in its words are exactly the rows of the least set
   pub rows-in-words : reply .number ≡ accepted → (row : Row ℕ) → StandsIn (reply .count) table row ↔ Least modes p (p .ground) row
@@ -42,7 +42,7 @@ module _ (words : List ℕ) (p : Program) (says : faults words ≡ sound p)
 
   -- and it is accepted where the room is enough
   pub enough-room-accepted : (MoreThan p (roomIn size) → ⊥) → reply .number ≡ accepted
-  enough-room-accepted = room-accepted modesOf modes-computes (faults words) size p says reply table promised
+  enough-room-accepted = room-accepted modeAnalysis modes-computes (faults words) size p says reply table promised
 
 -- "An accepted text, read and written again, is the same text": what is found in it, and the bytes
 pub text-again : (text : List ℕ) (s : Scenario) → readOf text ≡ right s → writeOf (s .words) (s .names) ≡ right text

@@ -10,7 +10,7 @@ use Rattle.program.specs.Faults.{sound, faults}
 use Rattle.program.specs.Reply.{accepted, noRoom, withdrawn}
 use Rattle.program.specs.declared.reply.Reply.{Reply}
 use Rattle.program.proofs.FaultNumbers.{FaultNumber, fault-number}
-use Rattle.table.specs.Table.{modesOf, Entry, roomIn, TableOf, MoreThan}
+use Rattle.table.specs.Table.{modeAnalysis, Entry, roomIn, TableOf, MoreThan}
 use Rattle.program.proofs.FoundLaws.{fault-or-sound, sound-same}
 use Rattle.table.proofs.Promise.{modes-computes, table-once, no-room-more, never-withdrawn}
 use Rattle.cells.specs.Table.{right}
@@ -28,7 +28,7 @@ numbers : {r r′ : Reply} → r ≡ r′ → r .number ≡ r′ .number
 numbers e = ap (λ (r : Reply). r .number) e
 
 pub analysing-replies : (words : List ℕ) (size : ℕ) → Replies (Analyses words size) (replicate size 0) (AnalyseLarger words size)
-analysing-replies words size = tabling-replies modesOf modes-computes (faults words) size (fault-number words)
+analysing-replies words size = tabling-replies modeAnalysis modes-computes (faults words) size (fault-number words)
 
 module _ (words names : List ℕ) (size room : ℕ) where
   abbrev listZeros : List ℕ × List ℕ
@@ -61,7 +61,7 @@ module _ (words names : List ℕ) (size room : ℕ) where
       named : (p′ : Program) → faults words ≡ sound p′ → namesFor p′ names ≡ right names → ⊥
       named p′ s m = wrong-or-right _ (rw (sound-same _ f s) at w) m
   list-answer r t o (unlisted p n q ze f w a d z) =
-      refusal z d (λ e. (p, f, w, inl (no-room-more words size _ ze p f a .0 e)), λ _. sound-refused modesOf modes-computes (faults words) size p f _ ze a d) (never-withdrawn words size _ ze a)
+      refusal z d (λ e. (p, f, w, inl (no-room-more words size _ ze p f a .0 e)), λ _. sound-refused modeAnalysis modes-computes (faults words) size p f _ ze a d) (never-withdrawn words size _ ze a)
   list-answer r t o (over p es fu a l z) =
       refusal z (λ d. omega arith) (λ _. (p, a .program, a .named, inr (es, a .rows, l)), λ _. refl) (λ d. omega arith)
   list-answer r t o (listed p es a l e g) = record {

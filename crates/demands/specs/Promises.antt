@@ -8,7 +8,7 @@ use Rattle.program.specs.Program.{Program}
 use Rattle.program.specs.Faults.{Found, sound, faults}
 use Rattle.program.specs.declared.reply.Reply.{Reply}
 use Rattle.table.specs.Analysis.{Analysis, roomOf, Exceeds}
-use Rattle.table.specs.Table.{modesOf, Entry, roomIn, TableOf, MoreThan, Promise}
+use Rattle.table.specs.Table.{modeAnalysis, Entry, roomIn, TableOf, MoreThan, Promise}
 use Rattle.text.specs.Name.{nameBytes}
 use Rattle.cells.specs.Table.{Read, right, Scenario}
 use Rattle.reader.specs.Read as reads
@@ -62,7 +62,7 @@ abbrev pub Larger : {X : Type 0} → (X → Analysis) → Found X → ℕ → Ty
 Larger {X} analysis found size = (p : X) × (found ≡ sound p) × Exceeds (analysis p) (roomOf (analysis p .size) size)
 
 abbrev pub AnalyseLarger : List ℕ → ℕ → Type 0
-AnalyseLarger words = Larger modesOf (faults words)
+AnalyseLarger words = Larger modeAnalysis (faults words)
 
 -- the least set of rows, or the listing of it
 abbrev pub ListLarger : List ℕ → List ℕ → ℕ → ℕ → Type 0

@@ -11,7 +11,7 @@ use Rattle.program.specs.declared.reply.Reply.{Reply}
 use Rattle.program.specs.Limits.{rowSize}
 use Rattle.table.specs.Rules.{Row, call}
 use Rattle.table.specs.Rounds.{Least}
-use Rattle.table.specs.Table.{modesOf, Entry, tableWords, TableOf, Promise}
+use Rattle.table.specs.Table.{modeAnalysis, Entry, tableWords, TableOf, Promise}
 use Rattle.table.proofs.Tables.{stands-least}
 use Rattle.table.proofs.Promise.{modes-computes, accepted-table}
 use Rattle.runs.specs.TableRows.{StandsIn, Trusted}
@@ -31,10 +31,10 @@ table-trusted words reply table rest p entries f t e z =
     }
   where
     there : (row : Row ℕ) → Least modes p (p .ground) row → StandsIn (reply .count) table row
-    there row least = rw e (rw z (stands-least (modesOf p) (modes-computes p) entries rest t row .1 least))
+    there row least = rw e (rw z (stands-least (modeAnalysis p) (modes-computes p) entries rest t row .1 least))
 
     from : (row : Row ℕ) → StandsIn (reply .count) table row → Least modes p (p .ground) row
-    from row stands = stands-least (modesOf p) (modes-computes p) entries rest t row .0 (rw z at (rw e at stands))
+    from row stands = stands-least (modeAnalysis p) (modes-computes p) entries rest t row .0 (rw z at (rw e at stands))
 
 -- what the analysis promises is to be trusted
 pub promise-trusted : (words : List ℕ) (size : ℕ) (reply : Reply) (table : List ℕ) → Promise words size reply table → reply .number ≡ accepted → Trusted words reply table

@@ -15,7 +15,7 @@ use Rattle.program.specs.Limits.{rowSize}
 use Rattle.program.proofs.FaultNumbers.{fault-number}
 use Rattle.table.specs.Rules.{Row, call, cont, solution, Row-discrete}
 use Rattle.table.specs.Analysis.{Before}
-use Rattle.table.specs.Table.{rowWords, modesOf, Entry, entryWords, tableWords, Ascending, roomIn, TableOf, MoreThan, Promise}
+use Rattle.table.specs.Table.{rowWords, modeAnalysis, Entry, entryWords, tableWords, Ascending, roomIn, TableOf, MoreThan, Promise}
 use Rattle.table.proofs.RuleLaws.{gives-finitary}
 use Rattle.table.proofs.Computed.{given, rowsAt}
 use Rattle.table.proofs.ComputedLaws.{given-all}
@@ -51,7 +51,7 @@ pub ascending-append : (es fs : List Entry) → Ascending es → Ascending fs
     → ((e f : Entry) → List·Memᴰ e es → List·Memᴰ f fs → Before (entryWords e) (entryWords f)) → Ascending (es ++ fs)
 ascending-append = ascends-append rowWords
 
-abbrev pub modes-computes : (p : Program) → Computes (modesOf p)
+abbrev pub modes-computes : (p : Program) → Computes (modeAnalysis p)
 modes-computes p =
     record {
       finitary = gives-finitary modes p;
@@ -64,39 +64,39 @@ modes-computes p =
 
 module _ (p : Program) where
   pub table-once : (es fs : List Entry) → TableOf p es → TableOf p fs → es ≡ fs
-  table-once = one-table (modesOf p)
+  table-once = one-table (modeAnalysis p)
 
   -- the table of a small program is computed: that of round k, where round k + 1 computes to the same rows
   abbrev pub tableAt : ℕ → List Entry
-  tableAt = computedTable (modesOf p) (modes-computes p)
+  tableAt = computedTable (modeAnalysis p) (modes-computes p)
 
   pub computed-table : (k : ℕ) (entries : List Entry) → rowsAt modes modes-lists p (p .ground) (suc k) ≡ rowsAt modes modes-lists p (p .ground) k → tableAt k ≡ entries → TableOf p entries
-  computed-table = computed-is-table (modesOf p) (modes-computes p)
+  computed-table = computed-is-table (modeAnalysis p) (modes-computes p)
 
   pub more-than-length : (entries : List Entry) → TableOf p entries → (n : ℕ) → MoreThan p n ↔ (n < length entries)
-  more-than-length = exceeds-length (modesOf p) (modes-computes p)
+  more-than-length = exceeds-length (modeAnalysis p) (modes-computes p)
 
 module _ (words : List ℕ) (size : ℕ) where
   pub promise-unique : (r r′ : Reply) (t t′ : List ℕ) → Promise words size r t → Promise words size r′ t′ → (r ≡ r′) × (t ≡ t′)
-  promise-unique = one-reply modesOf (faults words) size modes-computes
+  promise-unique = one-reply modeAnalysis (faults words) size modes-computes
 
   pub promise-met : (r : Reply) × (t : List ℕ) × Promise words size r t
-  promise-met = some-reply modesOf (faults words) size modes-computes
+  promise-met = some-reply modeAnalysis (faults words) size modes-computes
 
   pub no-room-more : (r : Reply) (t : List ℕ) (p : Program) → faults words ≡ sound p → Promise words size r t → (r .number ≡ noRoom) ↔ MoreThan p (roomIn size)
-  no-room-more r t p says = no-room-exceeds modesOf (faults words) size modes-computes p says r t
+  no-room-more r t p says = no-room-exceeds modeAnalysis (faults words) size modes-computes p says r t
 
   pub accepted-table : (r : Reply) (t : List ℕ) → Promise words size r t → r .number ≡ accepted
       → (p : Program) × (entries : List Entry) × (faults words ≡ sound p) × TableOf p entries × (r ≡ done (length entries))
       × (t ≡ tableWords entries ++ replicate (size - rowSize * length entries) 0)
-  accepted-table = accepted-is-table modesOf (faults words) size (λ n q f e. omega (arith, fault-number words n q f))
+  accepted-table = accepted-is-table modeAnalysis (faults words) size (λ n q f e. omega (arith, fault-number words n q f))
 
   pub accepted-listed : (r : Reply) (t : List ℕ) → Promise words size r t → r .number ≡ accepted
       → (p : Program) × (entries : List Entry) × (faults words ≡ sound p) × TableOf p entries × (r ≡ done (length entries))
   accepted-listed r t h d = let (p, entries, f, rows, e, z) = accepted-table r t h d in (p, entries, f, rows, e)
 
   pub refused-zeros : (r : Reply) (t : List ℕ) → Promise words size r t → (r .number ≡ accepted → ⊥) → (t ≡ replicate size 0) × (r .count ≡ 0)
-  refused-zeros = refusal-zeros modesOf (faults words) size
+  refused-zeros = refusal-zeros modeAnalysis (faults words) size
 
   pub never-withdrawn : (r : Reply) (t : List ℕ) → Promise words size r t → r .number ≡ withdrawn → ⊥
-  never-withdrawn = other-never modesOf (faults words) size withdrawn (λ n q f e. omega (arith, fault-number words n q f)) (λ e. omega arith) (λ e. omega arith)
+  never-withdrawn = other-never modeAnalysis (faults words) size withdrawn (λ n q f e. omega (arith, fault-number words n q f)) (λ e. omega arith) (λ e. omega arith)

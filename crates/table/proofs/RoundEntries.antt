@@ -4,11 +4,11 @@ use mathlib.Core.List.{List}
 use Rattle.marks.specs.Modes.{modes}
 use Rattle.program.specs.Program.{Program}
 use Rattle.table.specs.Rounds.{At}
-use Rattle.table.specs.Table.{modesOf, Entry, Ascending, TableOf}
+use Rattle.table.specs.Table.{modeAnalysis, Entry, Ascending, TableOf}
 use Rattle.table.specs.RoundKeys.{Rounded}
 use Rattle.table.proofs.RulesOf.{Within}
 use Rattle.table.proofs.RuleLaws.{gives-finitary}
 use Rattle.table.proofs.Tables.{last-is-table}
 
 pub rounded-table : (p : Program) (k : ℕ) → Within (At modes p (p .ground) (suc k)) (At modes p (p .ground) k) → (entries : List Entry) → Ascending entries → Rounded p k entries → TableOf p entries
-rounded-table p = last-is-table (modesOf p) (gives-finitary modes p)
+rounded-table p = last-is-table (modeAnalysis p) (gives-finitary modes p)

@@ -22,8 +22,8 @@ mask (cont n i M) = M
 mask (solution s M) = M
 
 -- the rows that the mode rules give from the goal's call
-abbrev pub modesOf : Program → Analysis
-modesOf p = record { Row = Row ℕ; start = call 0 (p .ground); Rules = Gives modes p; words = rowWords; size = rowSize }
+abbrev pub modeAnalysis : Program → Analysis
+modeAnalysis p = record { Row = Row ℕ; start = call 0 (p .ground); Rules = Gives modes p; words = rowWords; size = rowSize }
 
 -- a row with its round
 abbrev pub Entry : Type 0
@@ -45,11 +45,11 @@ roomIn = roomOf rowSize
 
 -- the table of a program, and when the least set has more than n rows
 abbrev pub TableOf : Program → List Entry → Type 0
-TableOf p = IsTable (modesOf p)
+TableOf p = IsTable (modeAnalysis p)
 
 abbrev pub MoreThan : Program → ℕ → Type 0
-MoreThan p = Exceeds (modesOf p)
+MoreThan p = Exceeds (modeAnalysis p)
 
 -- what the analysis of these words promises, with so many words of table lent
 abbrev pub Promise : List ℕ → ℕ → Reply → List ℕ → Type 0
-Promise words = PromiseOf modesOf (faults words)
+Promise words = PromiseOf modeAnalysis (faults words)
