@@ -2,6 +2,6 @@
 pub mod Readings
 pub mod FieldCuts
 pub mod Progresses
-pub mod Kepts
+pub mod HeldSymbols
 pub mod Takes
 pub mod Rows

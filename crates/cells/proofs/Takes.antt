@@ -18,7 +18,7 @@ use Rattle.text.proofs.Rooms.{set-behind}
 use Rattle.cells.specs.declared.look.Look.{Look}
 use Rattle.cells.specs.declared.look.Look.the-variants.{Fault, Symbol, Variable as Met}
 use Rattle.cells.specs.declared.state.Progress.{Progress}
-use Rattle.cells.specs.Table.{Table, Read}
+use Rattle.cells.specs.TextSoFar.{TextSoFar, Read}
 use Rattle.cells.specs.Cells.{Row, modeOf, symbolAt, namedOf, variableAt, startOf, argumentOf, lookOf, takenAt}
 use Rattle.cells.specs.Room.{Stands, TakenAs, rowOf, afterSymbol, afterVariable}
 use Rattle.cells.specs.declared.cells.Taken.the-variants.{Fault as TakenFault, Next}
@@ -48,7 +48,7 @@ variableAt-well r v g = go (ltb maxVariable v) refl (ltb (r .variables) v) refl 
     go false e false f false x = (ltb-false maxVariable v e, ltb-false (r .variables) v f)
 
 -- a symbol that starts an atom is none of a 18th; a variable is one of those met, or the next
-pub look-well : (t : Table) (query : Bool) (r : Row) (s : List ℕ) → LookWell r (lookOf t query r s)
+pub look-well : (t : TextSoFar) (query : Bool) (r : Row) (s : List ℕ) → LookWell r (lookOf t query r s)
 look-well t query r s = go (eqb (r .wanted) 0) refl (tokenOf query s)
   where
     start : (u : Bool) → ltb maxBody (r .atoms) ≡ u → LookWell r (cond u (Fault outOfRange) (namedOf (t .names) (t .words) 0 (t .predicates) s))
@@ -134,7 +134,7 @@ module _ {p : Progress} {ms out front modes words : List ℕ} (st : Stands p ms 
       within false e = omega (arith, ltb-false v (p .variables) e)
 
 -- the answer for a token, by what was seen of it
-module _ (t : Table) (query : Bool) (s : List ℕ) {p : Progress} {ms out front modes words : List ℕ} (st : Stands p ms out front modes words) where
+module _ (t : TextSoFar) (query : Bool) (s : List ℕ) {p : Progress} {ms out front modes words : List ℕ} (st : Stands p ms out front modes words) where
   abbrev its : Read Row
   its = takenAt (rowOf p ms out) 0 (lookOf t query (rowOf p ms out) s)
 

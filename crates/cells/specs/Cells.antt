@@ -13,7 +13,7 @@ use Rattle.text.specs.declared.token.Token.{Token}
 use Rattle.text.specs.declared.token.Token.the-variants.{Wrong, Name, Variable}
 use Rattle.cells.specs.declared.look.Look.{Look}
 use Rattle.cells.specs.declared.look.Look.the-variants.{Fault, Symbol, Variable as Met}
-use Rattle.cells.specs.Table.{Read, wrong, right, next, Table}
+use Rattle.cells.specs.TextSoFar.{Read, wrong, right, next, TextSoFar}
 
 -- a line as far as it was read
 pub record Row : Type 0 where
@@ -52,14 +52,14 @@ variableAt seen modes v ground =
     (Met v ground)))
 
 -- the first cell of an atom: a head and 16 body atoms at most; "an atom starts with no predicate"
-abbrev pub startOf : Table → ℕ → List ℕ → Token → Look
+abbrev pub startOf : TextSoFar → ℕ → List ℕ → Token → Look
 startOf t atoms s Wrong = Fault illFormed
 startOf t atoms s Name =
     cond (ltb maxBody atoms) (Fault outOfRange) (namedOf (t .names) (t .words) 0 (t .predicates) s)
 startOf t atoms s (Variable ground v) = cond (ltb maxBody atoms) (Fault outOfRange) (Fault undeclared)
 
 -- a cell of an argument; "an atom reaches a 33rd cell"
-abbrev pub argumentOf : Table → Row → List ℕ → Token → Look
+abbrev pub argumentOf : TextSoFar → Row → List ℕ → Token → Look
 argumentOf t r s Wrong = Fault illFormed
 argumentOf t r s Name =
     cond (leb atomCells (r .cells)) (Fault longAtom)
@@ -67,7 +67,7 @@ argumentOf t r s Name =
 argumentOf t r s (Variable ground v) = cond (leb atomCells (r .cells)) (Fault longAtom) (variableAt (r .variables) (r .modes) v ground)
 
 -- "At one place the order is 1, 11, 2, 5, 3, 4, 13."
-abbrev pub lookOf : Table → Bool → Row → List ℕ → Look
+abbrev pub lookOf : TextSoFar → Bool → Row → List ℕ → Look
 lookOf t query r s = cond (eqb (r .wanted) 0) (startOf t (r .atoms) s (tokenOf query s)) (argumentOf t r s (tokenOf query s))
 
 -- the row with a symbol's cell
@@ -105,7 +105,7 @@ complete r = eqb (r .wanted) 0 && ltb 0 (r .atoms)
 
 -- The tokens behind the separator at `at`, a tab or the LF. "a text line's atom ends too soon: the LF";
 -- "After the goal's last cell stands one LF; any other byte there, a tab too, gives 7."
-abbrev pub cellsOf : Table → Bool → Row → ℕ → List (List ℕ) → Read Row
+abbrev pub cellsOf : TextSoFar → Bool → Row → ℕ → List (List ℕ) → Read Row
 cellsOf t query r at [] = cond (complete r) (right r) (wrong tooSoon at)
 cellsOf t query r at (s ∷ ss) =
     cond (query && complete r) (wrong follows at)

@@ -1,4 +1,4 @@
 -- The cells of a clause or query line, one token each, as they are read.
-pub mod Table
+pub mod TextSoFar
 pub mod Cells
 pub mod Room

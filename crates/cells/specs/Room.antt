@@ -1,4 +1,4 @@
--- What the code's numbers and the lists in its room say together: a table, a line, and when a step of the code is right.
+-- What the code's numbers and the lists in its room say together: the text so far, a line, and when a step of the code is right.
 use Prim.Native.Nat.{ℕ, _+_, _-_, _*_, _≤_, _<_}
 use mathlib.Core.Path.{_≡_}
 use mathlib.Core.Bool.{cond}
@@ -7,9 +7,9 @@ use lib.ListN.{length, getD}
 use lib.Dec.{eqb, ltb}
 use Rattle.terms.specs.Cells.{variables}
 use Rattle.program.specs.Limits.{maxDeclared, maxWords, maxBody}
-use Rattle.text.specs.Name.{nameBytes, maxNames, Marked}
+use Rattle.text.specs.Name.{nameBytes, maxNames, Hashed}
 use Rattle.text.specs.Room.{inRoom}
-use Rattle.cells.specs.Table.{Table, Read, wrong, right}
+use Rattle.cells.specs.TextSoFar.{TextSoFar, Read, wrong, right}
 use Rattle.cells.specs.Cells.{Row}
 use Rattle.cells.specs.declared.state.Counts.{Counts}
 use Rattle.cells.specs.declared.state.Progress.{Progress}
@@ -18,28 +18,28 @@ use Rattle.cells.specs.declared.cells.Taken.the-variants.{Fault as Taken
 use Rattle.cells.specs.declared.cells.Cells.{Cells}
 use Rattle.cells.specs.declared.cells.Cells.the-variants.{Fault as CellsFault, Done}
 
-abbrev pub tableOf : Counts → List ℕ → List ℕ → Table
-tableOf c names words =
+abbrev pub textSoFar : Counts → List ℕ → List ℕ → TextSoFar
+textSoFar c names words =
     record { predicates = c .predicates; functions = c .functions; clauses = c .clauses; names = names; words = words }
 
 abbrev pub rowOf : Progress → List ℕ → List ℕ → Row
 rowOf p modes out =
     record { wanted = p .wanted; cells = p .cells; atoms = p .atoms; variables = p .variables; modes = modes; out = out }
 
--- the room that the reader works in: of names, their marks, their arities
-pub record Roomy (c : Counts) (names marks arities : List ℕ) : Type 0 where
+-- the room that the reader works in: of names, their hashes, their arities
+pub record Roomy (c : Counts) (names hashes arities : List ℕ) : Type 0 where
   pub few-predicates : c .predicates ≤ maxDeclared
   pub few-functions : c .functions ≤ maxDeclared
   pub name-room : length names ≡ maxNames * nameBytes
-  pub mark-room : length marks ≡ maxNames
+  pub hash-room : length hashes ≡ maxNames
   pub arity-room : length arities ≡ maxNames
 
 -- the names ns and the arities ws stand in the room
-pub record Kept (ns ws : List ℕ) (c : Counts) (names marks arities : List ℕ) : Type 0 where
+pub record SymbolsHeld (ns ws : List ℕ) (c : Counts) (names hashes arities : List ℕ) : Type 0 where
   pub named : names ≡ inRoom (maxNames * nameBytes) ns
   pub sized : length ns ≡ (c .predicates + c .functions) * nameBytes
   pub arity : (n : ℕ) → n < c .predicates + c .functions → getD arities n 0 ≡ getD ws n 0
-  pub marked : Marked names marks 0 (c .predicates + c .functions)
+  pub hashed : Hashed names hashes 0 (c .predicates + c .functions)
 
 abbrev pub afterSymbol : Progress → ℕ → Progress
 afterSymbol p arity =

@@ -4,10 +4,10 @@ use crate::look::look_at;
 use crate::look::mode_of;
 use crate::state::Counts;
 use crate::state::Progress;
-use program::limits::FIRST_VARIABLE;
 use program::limits::MAX_VARIABLE;
 use program::reply::FOLLOWS;
 use program::reply::TOO_SOON;
+use terms::walk::FIRST_VARIABLE;
 use text::cut::TAB;
 use text::cut::find;
 ghost use mathlib.Core.Path.{_≡_};
@@ -21,7 +21,7 @@ ghost use Rattle.program.specs.Limits.{maxWords, maxVariable};
 ghost use Rattle.text.specs.Line.{behind, tab};
 ghost use Rattle.text.specs.Room.{inRoom};
 ghost use Rattle.cells.specs.Cells.{modeOf, lookOf, takenAt, noCells, cellsOf, complete};
-ghost use Rattle.cells.specs.Room.{Roomy, Kept, Small, Grows, Grown, Stands, TakenAs, CellsAs, tableOf, rowOf, afterSymbol, afterVariable};
+ghost use Rattle.cells.specs.Room.{Roomy, SymbolsHeld, Small, Grows, Grown, Stands, TakenAs, CellsAs, textSoFar, rowOf, afterSymbol, afterVariable};
 
 pub enum Taken {
     Fault(u16),
@@ -124,16 +124,16 @@ fn take(
     p: Progress,
     c: Counts,
     names: &[u8],
-    marks: &[u32],
+    hashes: &[u32],
     arities: &[u16],
     words: &mut [u16],
     modes: &mut [u16],
 ) -> Taken
-    requires { ⌜ Roomy c (now names) (now marks) (now arities) × (length (now modes) ≡ variables) × Small p × (p .words < 2 ^ 32) ⌝ }
-    ensures { λ r. ⌜ ((ns ws ms out front : List ℕ) → Kept ns ws c (now (names .entry)) (now (marks .entry)) (now (arities .entry)) → Stands p ms out front (now (modes .entry)) (now (words .entry)) → TakenAs front (now (modes .exit)) (now (words .exit)) r (takenAt (rowOf p ms out) 0 (lookOf (tableOf c ns ws) query (rowOf p ms out) (now (s .entry))))) ⌝ }
+    requires { ⌜ Roomy c (now names) (now hashes) (now arities) × (length (now modes) ≡ variables) × Small p × (p .words < 2 ^ 32) ⌝ }
+    ensures { λ r. ⌜ ((ns ws ms out front : List ℕ) → SymbolsHeld ns ws c (now (names .entry)) (now (hashes .entry)) (now (arities .entry)) → Stands p ms out front (now (modes .entry)) (now (words .entry)) → TakenAs front (now (modes .exit)) (now (words .exit)) r (takenAt (rowOf p ms out) 0 (lookOf (textSoFar c ns ws) query (rowOf p ms out) (now (s .entry))))) ⌝ }
     ensures grows { λ r. ⌜ Grows p r ⌝ }
 {
-    match look_at(s, query, p, c, names, marks, arities, modes) {
+    match look_at(s, query, p, c, names, hashes, arities, modes) {
         Look::Fault(number) => Taken::Fault(number),
         Look::Symbol { word, arity } => {
             put(words, p.words, word);
@@ -175,14 +175,14 @@ pub fn read_cells(
     query: bool,
     c: Counts,
     names: &[u8],
-    marks: &[u32],
+    hashes: &[u32],
     arities: &[u16],
     words: &mut [u16],
     modes: &mut [u16],
     count: usize,
 ) -> Cells
-    requires { ⌜ Roomy c (now names) (now marks) (now arities) × (length (now modes) ≡ variables) × (from ≤ length (now line)) × (base + length (now line) < 2 ^ 31) × (count < 2 ^ 31) ⌝ }
-    ensures { λ r. ⌜ ((ns ws front : List ℕ) → Kept ns ws c (now (names .entry)) (now (marks .entry)) (now (arities .entry)) → now (words .entry) ≡ inRoom maxWords front → count ≡ length front → now (modes .entry) ≡ inRoom variables [] → CellsAs front (now (modes .exit)) (now (words .exit)) r (cellsOf (tableOf c ns ws) query noCells (base + from) (behind tab (now (line .entry)) from))) ⌝ }
+    requires { ⌜ Roomy c (now names) (now hashes) (now arities) × (length (now modes) ≡ variables) × (from ≤ length (now line)) × (base + length (now line) < 2 ^ 31) × (count < 2 ^ 31) ⌝ }
+    ensures { λ r. ⌜ ((ns ws front : List ℕ) → SymbolsHeld ns ws c (now (names .entry)) (now (hashes .entry)) (now (arities .entry)) → now (words .entry) ≡ inRoom maxWords front → count ≡ length front → now (modes .entry) ≡ inRoom variables [] → CellsAs front (now (modes .exit)) (now (words .exit)) r (cellsOf (textSoFar c ns ws) query noCells (base + from) (behind tab (now (line .entry)) from))) ⌝ }
     ensures grows { λ r. ⌜ Grown (count + length (now (line .entry))) r ⌝ }
 {
     let mut p = Progress {
@@ -208,7 +208,7 @@ pub fn read_cells(
             p,
             c,
             names,
-            marks,
+            hashes,
             arities,
             words,
             modes,

@@ -18,9 +18,9 @@ ghost use mathlib.Core.Path.{_≡_};
 ghost use Prim.Native.Nat.{_+_, _*_, _≤_, _<_};
 ghost use lib.ListN.{length};
 ghost use mathlib.Core.List.{[]};
-ghost use Rattle.text.specs.Name.{Marked, maxNames, nameBytes};
+ghost use Rattle.text.specs.Name.{Hashed, maxNames, nameBytes};
 ghost use Rattle.cells.specs.Cells.{modeOf, symbolAt, variableAt, namedOf, startOf, argumentOf, lookOf};
-ghost use Rattle.cells.specs.Room.{Roomy, tableOf, rowOf};
+ghost use Rattle.cells.specs.Room.{Roomy, textSoFar, rowOf};
 
 pub enum Look {
     // the fault's number
@@ -72,12 +72,12 @@ fn variable_at(seen: usize, modes: &[u16], v: usize, ground: bool) -> Look
 }
 
 // A symbol that is declared, from number `from` on and below number `to`.
-fn named(s: &[u8], from: usize, to: usize, names: &[u8], marks: &[u32], arities: &[u16]) -> Look
-    requires { ⌜ (from ≤ to) × (to ≤ maxNames) × (to * nameBytes ≤ length (now names)) × (to ≤ length (now marks)) × (to ≤ length (now arities)) ⌝ }
-    ensures { λ r. ⌜ (Marked (now (names .entry)) (now (marks .entry)) from to → r ≡ namedOf (now (names .entry)) (now (arities .entry)) from to (now (s .entry))) ⌝ }
+fn named(s: &[u8], from: usize, to: usize, names: &[u8], hashes: &[u32], arities: &[u16]) -> Look
+    requires { ⌜ (from ≤ to) × (to ≤ maxNames) × (to * nameBytes ≤ length (now names)) × (to ≤ length (now hashes)) × (to ≤ length (now arities)) ⌝ }
+    ensures { λ r. ⌜ (Hashed (now (names .entry)) (now (hashes .entry)) from to → r ≡ namedOf (now (names .entry)) (now (arities .entry)) from to (now (s .entry))) ⌝ }
 {
     let key = pad(s);
-    let n = find_name(names, marks, from, to, &key);
+    let n = find_name(names, hashes, from, to, &key);
     symbol_at(arities, from, to, n)
 }
 
@@ -88,11 +88,11 @@ fn start_of(
     p: Progress,
     c: Counts,
     names: &[u8],
-    marks: &[u32],
+    hashes: &[u32],
     arities: &[u16],
 ) -> Look
-    requires { ⌜ Roomy c (now names) (now marks) (now arities) ⌝ }
-    ensures { λ r. ⌜ (Marked (now (names .entry)) (now (marks .entry)) 0 (c .predicates + c .functions) → r ≡ startOf (tableOf c (now (names .entry)) (now (arities .entry))) (p .atoms) (now (s .entry)) token) ⌝ }
+    requires { ⌜ Roomy c (now names) (now hashes) (now arities) ⌝ }
+    ensures { λ r. ⌜ (Hashed (now (names .entry)) (now (hashes .entry)) 0 (c .predicates + c .functions) → r ≡ startOf (textSoFar c (now (names .entry)) (now (arities .entry))) (p .atoms) (now (s .entry)) token) ⌝ }
 {
     match token {
         Token::Wrong => Look::Fault(ILL_FORMED),
@@ -100,7 +100,7 @@ fn start_of(
             if MAX_BODY < p.atoms {
                 return Look::Fault(OUT_OF_RANGE);
             }
-            named(s, 0, c.predicates, names, marks, arities)
+            named(s, 0, c.predicates, names, hashes, arities)
         }
         Token::Variable {
             ground: _,
@@ -121,12 +121,12 @@ fn argument_of(
     p: Progress,
     c: Counts,
     names: &[u8],
-    marks: &[u32],
+    hashes: &[u32],
     arities: &[u16],
     modes: &[u16],
 ) -> Look
-    requires { ⌜ Roomy c (now names) (now marks) (now arities) × (15 < length (now modes)) ⌝ }
-    ensures { λ r. ⌜ (Marked (now (names .entry)) (now (marks .entry)) 0 (c .predicates + c .functions) → r ≡ argumentOf (tableOf c (now (names .entry)) (now (arities .entry))) (rowOf p (now (modes .entry)) []) (now (s .entry)) token) ⌝ }
+    requires { ⌜ Roomy c (now names) (now hashes) (now arities) × (15 < length (now modes)) ⌝ }
+    ensures { λ r. ⌜ (Hashed (now (names .entry)) (now (hashes .entry)) 0 (c .predicates + c .functions) → r ≡ argumentOf (textSoFar c (now (names .entry)) (now (arities .entry))) (rowOf p (now (modes .entry)) []) (now (s .entry)) token) ⌝ }
 {
     match token {
         Token::Wrong => Look::Fault(ILL_FORMED),
@@ -139,7 +139,7 @@ fn argument_of(
                 c.predicates,
                 c.predicates + c.functions,
                 names,
-                marks,
+                hashes,
                 arities,
             )
         }
@@ -159,16 +159,16 @@ pub fn look_at(
     p: Progress,
     c: Counts,
     names: &[u8],
-    marks: &[u32],
+    hashes: &[u32],
     arities: &[u16],
     modes: &[u16],
 ) -> Look
-    requires { ⌜ Roomy c (now names) (now marks) (now arities) × (15 < length (now modes)) ⌝ }
-    ensures { λ r. ⌜ (Marked (now (names .entry)) (now (marks .entry)) 0 (c .predicates + c .functions) → r ≡ lookOf (tableOf c (now (names .entry)) (now (arities .entry))) query (rowOf p (now (modes .entry)) []) (now (s .entry))) ⌝ }
+    requires { ⌜ Roomy c (now names) (now hashes) (now arities) × (15 < length (now modes)) ⌝ }
+    ensures { λ r. ⌜ (Hashed (now (names .entry)) (now (hashes .entry)) 0 (c .predicates + c .functions) → r ≡ lookOf (textSoFar c (now (names .entry)) (now (arities .entry))) query (rowOf p (now (modes .entry)) []) (now (s .entry))) ⌝ }
 {
     let token = token_of(s, query);
     if p.wanted == 0 {
-        return start_of(s, token, p, c, names, marks, arities);
+        return start_of(s, token, p, c, names, hashes, arities);
     }
-    argument_of(s, token, p, c, names, marks, arities, modes)
+    argument_of(s, token, p, c, names, hashes, arities, modes)
 }

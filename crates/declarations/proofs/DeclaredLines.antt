@@ -16,9 +16,9 @@ use Rattle.declarations.specs.declared.declare.Declared.{Declared}
 use Rattle.declarations.specs.declared.declare.Declared.the-variants.{Fault, Symbol}
 use Rattle.declarations.specs.declared.lined.Lined.the-variants.{Fault as LinedFault, More}
 use Rattle.program.specs.Reply.{illFormed}
-use Rattle.cells.specs.Table.{Table, Read, wrong}
+use Rattle.cells.specs.TextSoFar.{TextSoFar, Read, wrong}
 use Rattle.declarations.specs.Declarations.{two, declared, predLine, funcLine}
-use Rattle.cells.specs.Room.{Roomy, tableOf}
+use Rattle.cells.specs.Room.{Roomy, textSoFar}
 use Rattle.declarations.specs.Added.{Added}
 use Rattle.declarations.specs.Held.{Holds, LinedAs, moreOf}
 use Rattle.declarations.proofs.Symbols.{kept-more}
@@ -30,45 +30,45 @@ word-last ws words place w e f =
     let n : place ≡ length (0 ∷ 0 ∷ 0 ∷ ws) = omega arith in
     rw (n, e) (set-behind maxWords (0 ∷ 0 ∷ 0 ∷ ws) w)
 
-module _ (ns ws : List ℕ) (c c′ : Counts) (names marks arities words names′ marks′ arities′ words′ : List ℕ) (name : List ℕ) (n : ℕ)
-    (room : Roomy c names marks arities) (holds : Holds ns ws c names marks arities words)
+module _ (ns ws : List ℕ) (c c′ : Counts) (names hashes arities words names′ hashes′ arities′ words′ : List ℕ) (name : List ℕ) (n : ℕ)
+    (room : Roomy c names hashes arities) (holds : Holds ns ws c names hashes arities words)
     (number : n ≡ c .predicates + c .functions) (more : c′ .predicates + c′ .functions ≡ n + 1) (few : n < maxNames)
     (none : c .clauses ≡ 0) (same : c′ .clauses ≡ c .clauses) (behind : c′ .words ≡ c .words + 1) where
-  holds-more : (arity : ℕ) → Added name arity n (c .words) names marks arities words names′ marks′ arities′ words′
-      → Holds (ns ++ padded name) (ws ++ arity ∷ []) c′ names′ marks′ arities′ words′
+  holds-more : (arity : ℕ) → Added name arity n (c .words) names hashes arities words names′ hashes′ arities′ words′
+      → Holds (ns ++ padded name) (ws ++ arity ∷ []) c′ names′ hashes′ arities′ words′
   holds-more arity add =
       let exact : length ws ≡ n = holds .declared none ∙ sym number in
       let size = length-append ws (arity ∷ []) in
       record {
-        kept = kept-more ns ws c c′ names marks arities words names′ marks′ arities′ words′ name arity n (c .words) room (holds .kept) add number more few exact;
+        kept = kept-more ns ws c c′ names hashes arities words names′ hashes′ arities′ words′ name arity n (c .words) room (holds .kept) add number more few exact;
         word-room = add .word ∙ word-last ws words (c .words) arity (holds .word-room) (holds .place);
         place = omega (arith, size, holds .place);
         enough = omega (arith, size);
         declared = λ e. omega (arith, size);
       }
 
-  pub lined-symbol : (d : Declared) (arity : ℕ) → d ≡ Symbol arity → Added name arity n (c .words) names marks arities words names′ marks′ arities′ words′
-      → LinedAs names′ marks′ arities′ words′ (More c′) (moreOf (declared (tableOf c ns ws) (c′ .predicates) (c′ .functions) name d))
+  pub lined-symbol : (d : Declared) (arity : ℕ) → d ≡ Symbol arity → Added name arity n (c .words) names hashes arities words names′ hashes′ arities′ words′
+      → LinedAs names′ hashes′ arities′ words′ (More c′) (moreOf (declared (textSoFar c ns ws) (c′ .predicates) (c′ .functions) name d))
   lined-symbol d arity e add =
       rw e (c′, refl, (λ i. record { predicates = c′ .predicates; functions = c′ .functions; clauses = sym same i; names = ns ++ padded name; words = ws ++ arity ∷ [] }), holds-more arity add)
 
-pub lined-fault : (ns ws : List ℕ) (c c′ : Counts) (names marks arities words name : List ℕ) (d : Declared) (number place : ℕ) → d ≡ Fault number place
-    → LinedAs names marks arities words (LinedFault number place) (moreOf (declared (tableOf c ns ws) (c′ .predicates) (c′ .functions) name d))
-lined-fault ns ws c c′ names marks arities words name d number place e = rw e
+pub lined-fault : (ns ws : List ℕ) (c c′ : Counts) (names hashes arities words name : List ℕ) (d : Declared) (number place : ℕ) → d ≡ Fault number place
+    → LinedAs names hashes arities words (LinedFault number place) (moreOf (declared (textSoFar c ns ws) (c′ .predicates) (c′ .functions) name d))
+lined-fault ns ws c c′ names hashes arities words name d number place e = rw e
 
 -- not exactly three fields
-pub pred-wrong : (t : Table) (at : ℕ) (ss : List (List ℕ)) → ((place : ℕ) (f : List ℕ → List ℕ → Read Table) → two place ss f ≡ wrong illFormed place)
+pub pred-wrong : (t : TextSoFar) (at : ℕ) (ss : List (List ℕ)) → ((place : ℕ) (f : List ℕ → List ℕ → Read TextSoFar) → two place ss f ≡ wrong illFormed place)
     → predLine t at ss ≡ wrong illFormed at
 pred-wrong t at ss w = w at _
 
-pub func-wrong : (t : Table) (at : ℕ) (ss : List (List ℕ)) → ((place : ℕ) (f : List ℕ → List ℕ → Read Table) → two place ss f ≡ wrong illFormed place)
+pub func-wrong : (t : TextSoFar) (at : ℕ) (ss : List (List ℕ)) → ((place : ℕ) (f : List ℕ → List ℕ → Read TextSoFar) → two place ss f ≡ wrong illFormed place)
     → funcLine t at ss ≡ wrong illFormed at
 func-wrong t at ss w = w at _
 
--- a line's answer, by what its table comes to
-pub lined-wrong : (names marks arities words : List ℕ) (o : Read Table) {number place : ℕ} → o ≡ wrong number place
-    → LinedAs names marks arities words (LinedFault number place) (moreOf o)
-lined-wrong names marks arities words o e = rw e
+-- a line's answer, by what the text so far comes to with it
+pub lined-wrong : (names hashes arities words : List ℕ) (o : Read TextSoFar) {number place : ℕ} → o ≡ wrong number place
+    → LinedAs names hashes arities words (LinedFault number place) (moreOf o)
+lined-wrong names hashes arities words o e = rw e
 
 -- there is a predicate, and one more of the kind may come
 pub open-few : (predicates count : ℕ) → ltb 0 predicates && ltb count maxDeclared ≡ true → (0 < predicates) × (count < maxDeclared)

@@ -12,7 +12,7 @@ use Rattle.text.specs.declared.token.Number.{Number}
 use Rattle.text.specs.declared.token.Number.the-variants.{None, Value}
 use Rattle.declarations.specs.declared.declare.Declared.{Declared}
 use Rattle.declarations.specs.declared.declare.Declared.the-variants.{Fault, Symbol}
-use Rattle.cells.specs.Table.{Read, wrong, right, Table}
+use Rattle.cells.specs.TextSoFar.{Read, wrong, right, TextSoFar}
 
 -- `pred` and `func` have four letters
 abbrev pub declaring : ℕ
@@ -38,8 +38,8 @@ two at (name ∷ []) f = wrong illFormed at
 two at (name ∷ arity ∷ []) f = f name arity
 two at (name ∷ arity ∷ more ∷ ss) f = wrong illFormed at
 
--- the table with one more name and arity, of a predicate or of a function
-abbrev pub withSymbol : Table → ℕ → ℕ → List ℕ → ℕ → Table
+-- the text so far with one more name and arity, of a predicate or of a function
+abbrev pub withSymbol : TextSoFar → ℕ → ℕ → List ℕ → ℕ → TextSoFar
 withSymbol t predicates functions name arity =
     record {
       predicates = predicates;
@@ -49,12 +49,12 @@ withSymbol t predicates functions name arity =
       words = t .words ++ arity ∷ [];
     }
 
-abbrev pub declared : Table → ℕ → ℕ → List ℕ → Declared → Read Table
+abbrev pub declared : TextSoFar → ℕ → ℕ → List ℕ → Declared → Read TextSoFar
 declared t predicates functions name (Fault number place) = wrong number place
 declared t predicates functions name (Symbol arity) = right (withSymbol t predicates functions name arity)
 
 -- "First the `pred` lines (name, arity), then `func` lines": a line at `at`, with its fields behind the keyword
-abbrev pub predLine : Table → ℕ → List (List ℕ) → Read Table
+abbrev pub predLine : TextSoFar → ℕ → List (List ℕ) → Read TextSoFar
 predLine t at ss =
     two at ss
     (λ name arity. cond (eqb (t .functions + t .clauses) 0)
@@ -63,7 +63,7 @@ predLine t at ss =
     (wrong outOfRange at))
     (wrong illFormed at))
 
-abbrev pub funcLine : Table → ℕ → List (List ℕ) → Read Table
+abbrev pub funcLine : TextSoFar → ℕ → List (List ℕ) → Read TextSoFar
 funcLine t at ss =
     two at ss
     (λ name arity. cond (eqb (t .clauses) 0)

@@ -6,29 +6,29 @@ use lib.ListN.{length}
 use Rattle.program.specs.Limits.{maxDeclared, maxWords}
 use Rattle.text.specs.Name.{nameBytes, maxNames}
 use Rattle.text.specs.Room.{inRoom}
-use Rattle.cells.specs.Table.{Table, Read, wrong, right, next, Line, more, last}
-use Rattle.cells.specs.Room.{Kept, tableOf}
+use Rattle.cells.specs.TextSoFar.{TextSoFar, Read, wrong, right, next, Line, more, last}
+use Rattle.cells.specs.Room.{SymbolsHeld, textSoFar}
 use Rattle.cells.specs.declared.state.Counts.{Counts}
 use Rattle.declarations.specs.declared.lined.Lined.{Lined}
 use Rattle.declarations.specs.declared.lined.Lined.the-variants.{Fault, More, Last}
 
 -- the names ns, and the words ws behind room for three counts
-pub record Holds (ns ws : List ℕ) (c : Counts) (names marks arities words : List ℕ) : Type 0 where
-  pub kept : Kept ns ws c names marks arities
+pub record Holds (ns ws : List ℕ) (c : Counts) (names hashes arities words : List ℕ) : Type 0 where
+  pub kept : SymbolsHeld ns ws c names hashes arities
   pub word-room : words ≡ inRoom maxWords (0 ∷ 0 ∷ 0 ∷ ws)
   pub place : c .words ≡ 3 + length ws
   pub enough : c .predicates + c .functions ≤ length ws
   pub declared : c .clauses ≡ 0 → length ws ≡ c .predicates + c .functions
 
-abbrev pub moreOf : Read Table → Read Line
+abbrev pub moreOf : Read TextSoFar → Read Line
 moreOf o = next o (λ t. right (more t))
 
 -- a line was read as it should be
 abbrev pub LinedAs : List ℕ → List ℕ → List ℕ → List ℕ → Lined → Read Line → Type 0
-LinedAs names marks arities words r (wrong number place) = r ≡ Fault number place
-LinedAs names marks arities words r (right (more t)) =
-    (c : Counts) × (r ≡ More c) × (t ≡ tableOf c (t .names) (t .words)) × Holds (t .names) (t .words) c names marks arities words
-LinedAs names marks arities words r (right (last s)) =
+LinedAs names hashes arities words r (wrong number place) = r ≡ Fault number place
+LinedAs names hashes arities words r (right (more t)) =
+    (c : Counts) × (r ≡ More c) × (t ≡ textSoFar c (t .names) (t .words)) × Holds (t .names) (t .words) c names hashes arities words
+LinedAs names hashes arities words r (right (last s)) =
     (r ≡ Last (length (s .words)) (length (s .names))) × (words ≡ inRoom maxWords (s .words)) × (names ≡ inRoom (maxNames * nameBytes) (s .names))
     × (length (s .names) ≤ maxNames * nameBytes)
 

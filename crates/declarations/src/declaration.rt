@@ -20,7 +20,7 @@ ghost use Rattle.text.specs.Name.{maxNames};
 ghost use Rattle.text.specs.Line.{behind, tab};
 ghost use Rattle.program.specs.Limits.{maxDeclared};
 ghost use Rattle.declarations.specs.Declarations.{declaring, symbolOf, declared, predLine, funcLine};
-ghost use Rattle.cells.specs.Room.{Roomy, tableOf};
+ghost use Rattle.cells.specs.Room.{Roomy, textSoFar};
 ghost use Rattle.declarations.specs.Held.{Holds, LinedAs, moreOf, Limited, Goes};
 
 const DECLARING: usize = 4;
@@ -35,12 +35,12 @@ fn add_declared(
     c: Counts,
     next: Counts,
     names: &mut [u8],
-    marks: &mut [u32],
+    hashes: &mut [u32],
     arities: &mut [u16],
     words: &mut [u16],
 ) -> Lined
-    requires { ⌜ Roomy c (now names) (now marks) (now arities) × (declaring < middle) × (middle < length (now line)) × (base + length (now line) < 2 ^ 31) × (first + count < maxNames) × Limited next × (next .words ≡ c .words + 1) ⌝ }
-    ensures { λ r. ⌜ ((ns ws : List ℕ) → Holds ns ws c (now (names .entry)) (now (marks .entry)) (now (arities .entry)) (now (words .entry)) → c .clauses ≡ 0 → next .clauses ≡ c .clauses → first + count ≡ c .predicates + c .functions → next .predicates + next .functions ≡ first + count + 1 → LinedAs (now (names .exit)) (now (marks .exit)) (now (arities .exit)) (now (words .exit)) r (moreOf (declared (tableOf c ns ws) (next .predicates) (next .functions) (between (now (line .entry)) (declaring + 1) middle) (symbolOf ns first count (base + declaring) (between (now (line .entry)) (declaring + 1) middle) (between (now (line .entry)) (middle + 1) (length (now (line .entry)))))))) ⌝ }
+    requires { ⌜ Roomy c (now names) (now hashes) (now arities) × (declaring < middle) × (middle < length (now line)) × (base + length (now line) < 2 ^ 31) × (first + count < maxNames) × Limited next × (next .words ≡ c .words + 1) ⌝ }
+    ensures { λ r. ⌜ ((ns ws : List ℕ) → Holds ns ws c (now (names .entry)) (now (hashes .entry)) (now (arities .entry)) (now (words .entry)) → c .clauses ≡ 0 → next .clauses ≡ c .clauses → first + count ≡ c .predicates + c .functions → next .predicates + next .functions ≡ first + count + 1 → LinedAs (now (names .exit)) (now (hashes .exit)) (now (arities .exit)) (now (words .exit)) r (moreOf (declared (textSoFar c ns ws) (next .predicates) (next .functions) (between (now (line .entry)) (declaring + 1) middle) (symbolOf ns first count (base + declaring) (between (now (line .entry)) (declaring + 1) middle) (between (now (line .entry)) (middle + 1) (length (now (line .entry)))))))) ⌝ }
     ensures goes { λ r. ⌜ Goes (c .words + 1) r ⌝ }
 {
     let start = DECLARING + 1;
@@ -52,7 +52,7 @@ fn add_declared(
         first,
         count,
         names,
-        marks,
+        hashes,
     ) {
         Declared::Fault { number, place } => Lined::Fault { number, place },
         Declared::Symbol(arity) => {
@@ -62,7 +62,7 @@ fn add_declared(
                 first + count,
                 c.words,
                 names,
-                marks,
+                hashes,
                 arities,
                 words,
             );
@@ -87,12 +87,12 @@ pub fn pred_line(
     base: usize,
     c: Counts,
     names: &mut [u8],
-    marks: &mut [u32],
+    hashes: &mut [u32],
     arities: &mut [u16],
     words: &mut [u16],
 ) -> Lined
-    requires { ⌜ Roomy c (now names) (now marks) (now arities) × Limited c × (declaring ≤ length (now line)) × (base + length (now line) < 2 ^ 31) × (c .words < 2 ^ 31) ⌝ }
-    ensures { λ r. ⌜ ((ns ws : List ℕ) → Holds ns ws c (now (names .entry)) (now (marks .entry)) (now (arities .entry)) (now (words .entry)) → LinedAs (now (names .exit)) (now (marks .exit)) (now (arities .exit)) (now (words .exit)) r (moreOf (predLine (tableOf c ns ws) base (behind tab (now (line .entry)) declaring)))) ⌝ }
+    requires { ⌜ Roomy c (now names) (now hashes) (now arities) × Limited c × (declaring ≤ length (now line)) × (base + length (now line) < 2 ^ 31) × (c .words < 2 ^ 31) ⌝ }
+    ensures { λ r. ⌜ ((ns ws : List ℕ) → Holds ns ws c (now (names .entry)) (now (hashes .entry)) (now (arities .entry)) (now (words .entry)) → LinedAs (now (names .exit)) (now (hashes .exit)) (now (arities .exit)) (now (words .exit)) r (moreOf (predLine (textSoFar c ns ws) base (behind tab (now (line .entry)) declaring)))) ⌝ }
     ensures goes { λ r. ⌜ Goes (c .words + 1) r ⌝ }
 {
     match two_fields(line, DECLARING) {
@@ -128,7 +128,7 @@ pub fn pred_line(
                 c,
                 next,
                 names,
-                marks,
+                hashes,
                 arities,
                 words,
             )
@@ -142,12 +142,12 @@ pub fn func_line(
     base: usize,
     c: Counts,
     names: &mut [u8],
-    marks: &mut [u32],
+    hashes: &mut [u32],
     arities: &mut [u16],
     words: &mut [u16],
 ) -> Lined
-    requires { ⌜ Roomy c (now names) (now marks) (now arities) × Limited c × (declaring ≤ length (now line)) × (base + length (now line) < 2 ^ 31) × (c .words < 2 ^ 31) ⌝ }
-    ensures { λ r. ⌜ ((ns ws : List ℕ) → Holds ns ws c (now (names .entry)) (now (marks .entry)) (now (arities .entry)) (now (words .entry)) → LinedAs (now (names .exit)) (now (marks .exit)) (now (arities .exit)) (now (words .exit)) r (moreOf (funcLine (tableOf c ns ws) base (behind tab (now (line .entry)) declaring)))) ⌝ }
+    requires { ⌜ Roomy c (now names) (now hashes) (now arities) × Limited c × (declaring ≤ length (now line)) × (base + length (now line) < 2 ^ 31) × (c .words < 2 ^ 31) ⌝ }
+    ensures { λ r. ⌜ ((ns ws : List ℕ) → Holds ns ws c (now (names .entry)) (now (hashes .entry)) (now (arities .entry)) (now (words .entry)) → LinedAs (now (names .exit)) (now (hashes .exit)) (now (arities .exit)) (now (words .exit)) r (moreOf (funcLine (textSoFar c ns ws) base (behind tab (now (line .entry)) declaring)))) ⌝ }
     ensures goes { λ r. ⌜ Goes (c .words + 1) r ⌝ }
 {
     match two_fields(line, DECLARING) {
@@ -183,7 +183,7 @@ pub fn func_line(
                 c,
                 next,
                 names,
-                marks,
+                hashes,
                 arities,
                 words,
             )

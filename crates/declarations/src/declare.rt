@@ -11,7 +11,7 @@ use text::token::number_of;
 ghost use mathlib.Core.Path.{_≡_};
 ghost use Prim.Native.Nat.{_+_, _*_, _^_, _≤_, _<_};
 ghost use lib.ListN.{length};
-ghost use Rattle.text.specs.Name.{Marked, maxNames, nameBytes};
+ghost use Rattle.text.specs.Name.{Hashed, maxNames, nameBytes};
 ghost use Rattle.text.specs.Token.{numberOf};
 ghost use Rattle.declarations.specs.Declarations.{fresh, arityOf, symbolOf};
 
@@ -22,15 +22,15 @@ pub enum Declared {
 }
 
 // "a declared name is ill formed, or declared twice in its kind": whether it is neither.
-fn is_fresh(s: &[u8], from: usize, count: usize, names: &[u8], marks: &[u32]) -> bool
-    requires { ⌜ (from + count ≤ maxNames) × (length (now names) ≡ maxNames * nameBytes) × (length (now marks) ≡ maxNames) ⌝ }
-    ensures { λ r. ⌜ (Marked (now (names .entry)) (now (marks .entry)) from (from + count) → r ≡ fresh (now (names .entry)) from count (now (s .entry))) ⌝ }
+fn is_fresh(s: &[u8], from: usize, count: usize, names: &[u8], hashes: &[u32]) -> bool
+    requires { ⌜ (from + count ≤ maxNames) × (length (now names) ≡ maxNames * nameBytes) × (length (now hashes) ≡ maxNames) ⌝ }
+    ensures { λ r. ⌜ (Hashed (now (names .entry)) (now (hashes .entry)) from (from + count) → r ≡ fresh (now (names .entry)) from count (now (s .entry))) ⌝ }
 {
     if !is_name(s) {
         return false;
     }
     let key = pad(s);
-    find_name(names, marks, from, from + count, &key) == from + count
+    find_name(names, hashes, from, from + count, &key) == from + count
 }
 
 fn arity_of(s: &[u8], place: usize) -> Declared
@@ -61,12 +61,12 @@ pub fn symbol_of(
     from: usize,
     count: usize,
     names: &[u8],
-    marks: &[u32],
+    hashes: &[u32],
 ) -> Declared
-    requires { ⌜ (from + count ≤ maxNames) × (length (now names) ≡ maxNames * nameBytes) × (length (now marks) ≡ maxNames) × (at + length (now name) < 2 ^ 32) ⌝ }
-    ensures { λ r. ⌜ (Marked (now (names .entry)) (now (marks .entry)) from (from + count) → r ≡ symbolOf (now (names .entry)) from count at (now (name .entry)) (now (arity .entry))) ⌝ }
+    requires { ⌜ (from + count ≤ maxNames) × (length (now names) ≡ maxNames * nameBytes) × (length (now hashes) ≡ maxNames) × (at + length (now name) < 2 ^ 32) ⌝ }
+    ensures { λ r. ⌜ (Hashed (now (names .entry)) (now (hashes .entry)) from (from + count) → r ≡ symbolOf (now (names .entry)) from count at (now (name .entry)) (now (arity .entry))) ⌝ }
 {
-    if !is_fresh(name, from, count, names, marks) {
+    if !is_fresh(name, from, count, names, hashes) {
         return Declared::Fault {
             number: BAD_NAME,
             place: at + 1,

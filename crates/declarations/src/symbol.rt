@@ -1,7 +1,7 @@
-// One more symbol: its name, mark and arity behind the others, and its arity behind the words.
+// One more symbol: its name, hash and arity behind the others, and its arity behind the words.
 use cells::cells::put;
 use text::name::NAME_BYTES;
-use text::name::mark_of;
+use text::name::hash_of;
 use text::name::pad;
 ghost use mathlib.Core.Path.{_≡_};
 ghost use mathlib.Core.List.{List, _++_};
@@ -11,11 +11,11 @@ ghost use Rattle.text.specs.Name.{nameBytes, maxNames};
 ghost use Rattle.text.specs.Room.{inRoom};
 ghost use Rattle.declarations.specs.Added.{Added};
 
-fn put_mark(marks: &mut [u32], at: usize, x: u32)
-    ensures { λ _. ⌜ now (marks .exit) ≡ set (now (marks .entry)) at x ⌝ }
+fn put_hash(hashes: &mut [u32], at: usize, x: u32)
+    ensures { λ _. ⌜ now (hashes .exit) ≡ set (now (hashes .entry)) at x ⌝ }
 {
-    if at < marks.len() {
-        marks[at] = x;
+    if at < hashes.len() {
+        hashes[at] = x;
     }
 }
 
@@ -38,15 +38,15 @@ pub fn add_symbol(
     n: usize,
     at: usize,
     names: &mut [u8],
-    marks: &mut [u32],
+    hashes: &mut [u32],
     arities: &mut [u16],
     words: &mut [u16],
 )
     requires { ⌜ (n < maxNames) × (length (now names) ≡ maxNames * nameBytes) ⌝ }
-    ensures { λ _. ⌜ Added (now (name .entry)) arity n at (now (names .entry)) (now (marks .entry)) (now (arities .entry)) (now (words .entry)) (now (names .exit)) (now (marks .exit)) (now (arities .exit)) (now (words .exit)) ⌝ }
+    ensures { λ _. ⌜ Added (now (name .entry)) arity n at (now (names .entry)) (now (hashes .entry)) (now (arities .entry)) (now (words .entry)) (now (names .exit)) (now (hashes .exit)) (now (arities .exit)) (now (words .exit)) ⌝ }
 {
     let key = pad(name);
-    put_mark(marks, n, mark_of(&key));
+    put_hash(hashes, n, hash_of(&key));
     put_name(names, n * NAME_BYTES, &key);
     put(arities, n, arity);
     put(words, at, arity);

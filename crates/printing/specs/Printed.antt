@@ -8,7 +8,7 @@ use lib.Dec.{eqb}
 use Rattle.program.specs.Reply.{accepted}
 use Rattle.program.specs.declared.reply.Reply.{Reply}
 use Rattle.text.specs.Decimal.{decimal}
-use Rattle.cells.specs.Table.{wrong, right, Scenario}
+use Rattle.cells.specs.TextSoFar.{wrong, right, Scenario}
 use Rattle.reader.specs.Read.{readOf}
 use Rattle.written_lines.specs.Tokens.{line}
 use Rattle.lister.specs.ListingPromise.{ListingPromise}

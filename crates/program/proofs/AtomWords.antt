@@ -10,7 +10,7 @@ use borrow.Author.Tests.{lt-ltb, ltb-true}
 use Rattle.terms.specs.Term.{Term, Terms, app, count}
 use Rattle.terms.specs.Cells.{enc, Keepss, atomCells, Atom, pick}
 use Rattle.program.specs.Reply.{undeclared}
-use Rattle.program.specs.Reading.{Read, wrong, right, next}
+use Rattle.program.specs.Reading.{Decoded, wrong, right, next}
 use Rattle.program.specs.Atoms.{terms, atom, atoms}
 use Rattle.program.specs.Within.{Each, none, more, after, Numbered, NumberedAll, encodeAtoms}
 use Rattle.program.proofs.Words.{next-right}
@@ -25,7 +25,7 @@ pub record Atom-read (predicates functions : List ℕ) (seen : ℕ) (ws : List �
 
 arguments-atom : (ps fs : List ℕ) (seen w : ℕ) (ws : List ℕ) (us : Terms) (s : ℕ) (l : List ℕ) (t : Term) (seen′ : ℕ) (rest : List ℕ)
     → w < length ps → Terms-read fs ws (getD ps w 0) 1 seen us s l
-    → _≡_ {A = Read (Term × ℕ)} (right (app w us, s) l) (right (t, seen′) rest) → Atom-read ps fs seen (w ∷ ws) t seen′ rest
+    → _≡_ {A = Decoded (Term × ℕ)} (right (app w us, s) l) (right (t, seen′) rest) → Atom-read ps fs seen (w ∷ ws) t seen′ rest
 arguments-atom ps fs seen w ws us s l t seen′ rest h r q =
     let same : _≡_ {A = Term × ℕ} (app w us, s) (t, seen′) = cc in
     let left : l ≡ rest = cc in
@@ -76,7 +76,7 @@ pub record Atoms-read (predicates functions : List ℕ) (n seen : ℕ) (ws : Lis
   pub numbered : NumberedAll seen ts
 
 no-atoms-read : (ps fs : List ℕ) (seen : ℕ) (ws : List ℕ) (ts : List Term) (seen′ : ℕ) (rest : List ℕ)
-    → _≡_ {A = Read (List Term × ℕ)} (right ([], seen) ws) (right (ts, seen′) rest) → Atoms-read ps fs zero seen ws ts rest
+    → _≡_ {A = Decoded (List Term × ℕ)} (right ([], seen) ws) (right (ts, seen′) rest) → Atoms-read ps fs zero seen ws ts rest
 no-atoms-read ps fs seen ws ts seen′ rest q =
     let same : _≡_ {A = List Term × ℕ} ([], seen) (ts, seen′) = cc in
     let left : ws ≡ rest = cc in
@@ -85,7 +85,7 @@ no-atoms-read ps fs seen ws ts seen′ rest q =
 
 more-atoms-read : (ps fs : List ℕ) (n seen : ℕ) (ws mid last : List ℕ) (a : Term × ℕ) (r : List Term × ℕ) (ts : List Term) (seen′ : ℕ) (rest : List ℕ)
     → Atom-read ps fs seen ws (a .0) (a .1) mid → Atoms-read ps fs n (a .1) mid (r .0) last
-    → _≡_ {A = Read (List Term × ℕ)} (right (a .0 ∷ r .0, r .1) last) (right (ts, seen′) rest) → Atoms-read ps fs (suc n) seen ws ts rest
+    → _≡_ {A = Decoded (List Term × ℕ)} (right (a .0 ∷ r .0, r .1) last) (right (ts, seen′) rest) → Atoms-read ps fs (suc n) seen ws ts rest
 more-atoms-read ps fs n seen ws mid last a r ts seen′ rest first others q =
     let same : _≡_ {A = List Term × ℕ} (a .0 ∷ r .0, r .1) (ts, seen′) = cc in
     let left : last ≡ rest = cc in
@@ -104,9 +104,9 @@ pub atoms-read : (ps fs : List ℕ) (n seen : ℕ) (ws : List ℕ) (ts : List Te
 unfolding atoms
 atoms-read ps fs zero seen ws ts seen′ rest e = no-atoms-read ps fs seen ws ts seen′ rest e
 atoms-read ps fs (suc n) seen ws ts seen′ rest e =
-    let f : Term × ℕ → List ℕ → Read (List Term × ℕ) = λ a mid. next (atoms ps fs n (a .1) mid) (λ r last. right (a .0 ∷ r .0, r .1) last) in
+    let f : Term × ℕ → List ℕ → Decoded (List Term × ℕ) = λ a mid. next (atoms ps fs n (a .1) mid) (λ r last. right (a .0 ∷ r .0, r .1) last) in
     let one = next-right (atom ps fs seen ws) f (ts, seen′) rest e in
-    let g : List Term × ℕ → List ℕ → Read (List Term × ℕ) = λ r last. right (one .0 .0 ∷ r .0, r .1) last in
+    let g : List Term × ℕ → List ℕ → Decoded (List Term × ℕ) = λ r last. right (one .0 .0 ∷ r .0, r .1) last in
     let two = next-right (atoms ps fs n (one .0 .1) (one .1)) g (ts, seen′) rest (one .3) in
     more-atoms-read ps fs n seen ws (one .1) (two .1) (one .0) (two .0) ts seen′ rest
     (atom-read ps fs seen ws (one .0 .0) (one .0 .1) (one .1) (one .2))

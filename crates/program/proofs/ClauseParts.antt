@@ -7,7 +7,7 @@ use Rattle.terms.specs.Term.{Term}
 use Rattle.terms.specs.declared.cursor.Cursor.{Cursor}
 use Rattle.program.specs.Limits.{maxBody, anyMode, groundMode}
 use Rattle.program.specs.Reply.{outOfRange, badGoal}
-use Rattle.program.specs.Reading.{Read, right, next, bounded, several}
+use Rattle.program.specs.Reading.{Decoded, right, next, bounded, several}
 use Rattle.program.specs.Atoms.{atom, atoms}
 use Rattle.program.specs.Program.{Clause}
 use Rattle.program.specs.Faults.{clause, goal, maskOf}
@@ -19,12 +19,12 @@ use Rattle.program.proofs.Parts.{meets-fault, meets-next, meets-map, me
 module _ (words predicates functions : List ℕ) where
   module _ (ws : List ℕ) where
     -- a clause behind its body length, and behind its head
-    abbrev behindLength : ℕ → List ℕ → Read Clause
+    abbrev behindLength : ℕ → List ℕ → Decoded Clause
     behindLength m rest =
         next (atom predicates functions 0 rest)
         (λ h rest′. next (atoms predicates functions m (h .1) rest′) (λ b rest″. right (record { head = h .0; body = b .0 }) rest″))
 
-    abbrev behindHead : ℕ → Term × ℕ → List ℕ → Read Clause
+    abbrev behindHead : ℕ → Term × ℕ → List ℕ → Decoded Clause
     behindHead m h rest = next (atoms predicates functions m (h .1) rest) (λ b rest′. right (record { head = h .0; body = b .0 }) rest′)
 
     pub clause-length-fault : (n p : ℕ) → Meets words itself (Fault n p) (bounded outOfRange 0 maxBody ws) → Meets words none (Fault n p) (clause predicates functions ws)
@@ -58,12 +58,12 @@ module _ (words predicates functions : List ℕ) where
             (λ b. record { head = h .0; body = b .0 }) (rw e at m)))
 
   -- the goal behind its atom, and behind its variable count
-  abbrev behindAtom : Term × ℕ → List ℕ → Read (Term × ℕ)
+  abbrev behindAtom : Term × ℕ → List ℕ → Decoded (Term × ℕ)
   behindAtom a rest =
       next (bounded badGoal (a .1) (a .1) rest)
       (λ k rest′. next (several (bounded badGoal anyMode groundMode) k rest′) (λ modes rest″. right (a .0, maskOf modes) rest″))
 
-  abbrev behindCount : Term → ℕ → List ℕ → Read (Term × ℕ)
+  abbrev behindCount : Term → ℕ → List ℕ → Decoded (Term × ℕ)
   behindCount t k rest = next (several (bounded badGoal anyMode groundMode) k rest) (λ modes rest′. right (t, maskOf modes) rest′)
 
   module _ (ws : List ℕ) where

@@ -8,7 +8,7 @@ use Rattle.terms.specs.Term.{Term}
 use Rattle.terms.specs.Cells.{enc, Atom}
 use Rattle.program.specs.Limits.{maxBody, anyMode, groundMode}
 use Rattle.program.specs.Reply.{outOfRange, badGoal}
-use Rattle.program.specs.Reading.{Read, wrong, right, next, bounded, several}
+use Rattle.program.specs.Reading.{Decoded, wrong, right, next, bounded, several}
 use Rattle.program.specs.Atoms.{atom, atoms}
 use Rattle.program.specs.Program.{Clause}
 use Rattle.program.specs.Faults.{clause, goal, maskOf}
@@ -23,7 +23,7 @@ pub record Clause-read (predicates functions ws : List ℕ) (c : Clause) (rest :
 
 clause-parts : (ps fs : List ℕ) (m : ℕ) (h : Term × ℕ) (b : List Term) (ws r₁ r₂ r₃ rest : List ℕ) (c : Clause)
     → Bounded 0 maxBody m ws r₁ → Atom-read ps fs 0 r₁ (h .0) (h .1) r₂ → Atoms-read ps fs m (h .1) r₂ b r₃
-    → _≡_ {A = Read Clause} (right (record { head = h .0; body = b }) r₃) (right c rest) → Clause-read ps fs ws c rest
+    → _≡_ {A = Decoded Clause} (right (record { head = h .0; body = b }) r₃) (right c rest) → Clause-read ps fs ws c rest
 clause-parts ps fs m h b ws r₁ r₂ r₃ rest c length-read head-read body-read q =
     let same : record { head = h .0; body = b } ≡ c = cc in
     let left : r₃ ≡ rest = cc in
@@ -45,11 +45,11 @@ clause-parts ps fs m h b ws r₁ r₂ r₃ rest c length-read head-read body-rea
 pub clause-read : (ps fs ws : List ℕ) (c : Clause) (rest : List ℕ) → clause ps fs ws ≡ right c rest → Clause-read ps fs ws c rest
 unfolding clause
 clause-read ps fs ws c rest e =
-    let behindHead : ℕ → Term × ℕ → List ℕ → Read Clause = λ m h r. next (atoms ps fs m (h .1) r) (λ b r′. right (record { head = h .0; body = b .0 }) r′) in
-    let behindLength : ℕ → List ℕ → Read Clause = λ m r. next (atom ps fs 0 r) (behindHead m) in
+    let behindHead : ℕ → Term × ℕ → List ℕ → Decoded Clause = λ m h r. next (atoms ps fs m (h .1) r) (λ b r′. right (record { head = h .0; body = b .0 }) r′) in
+    let behindLength : ℕ → List ℕ → Decoded Clause = λ m r. next (atom ps fs 0 r) (behindHead m) in
     let one = next-right (bounded outOfRange 0 maxBody ws) behindLength c rest e in
     let two = next-right (atom ps fs 0 (one .1)) (behindHead (one .0)) c rest (one .3) in
-    let build : List Term × ℕ → List ℕ → Read Clause = λ b r. right (record { head = two .0 .0; body = b .0 }) r in
+    let build : List Term × ℕ → List ℕ → Decoded Clause = λ b r. right (record { head = two .0 .0; body = b .0 }) r in
     let three = next-right (atoms ps fs (one .0) (two .0 .1) (two .1)) build c rest (two .3) in
     clause-parts ps fs (one .0) (two .0) (three .0 .0) ws (one .1) (two .1) (three .1) rest c
     (bounded-read outOfRange 0 maxBody (one .0) ws (one .1) (one .2))
@@ -81,7 +81,7 @@ clause-first c cs rest =
 
 clauses-more : (ps fs : List ℕ) (n : ℕ) (ws mid last rest : List ℕ) (c : Clause) (others cs : List Clause)
     → Clause-read ps fs ws c mid → Clauses-read ps fs n mid others last
-    → _≡_ {A = Read (List Clause)} (right (c ∷ others) last) (right cs rest) → Clauses-read ps fs (suc n) ws cs rest
+    → _≡_ {A = Decoded (List Clause)} (right (c ∷ others) last) (right cs rest) → Clauses-read ps fs (suc n) ws cs rest
 clauses-more ps fs n ws mid last rest c others cs first r q =
     let same : c ∷ others ≡ cs = cc in
     let left : last ≡ rest = cc in
@@ -101,7 +101,7 @@ clauses-read ps fs zero ws cs rest e =
     let left : ws ≡ rest = cc in
     rw (← same) (record { are = left; number = refl; within = none })
 clauses-read ps fs (suc n) ws cs rest e =
-    let f : Clause → List ℕ → Read (List Clause) = λ c mid. next (several (clause ps fs) n mid) (λ others last. right (c ∷ others) last) in
+    let f : Clause → List ℕ → Decoded (List Clause) = λ c mid. next (several (clause ps fs) n mid) (λ others last. right (c ∷ others) last) in
     let one = next-right (clause ps fs ws) f cs rest e in
     let two = next-right (several (clause ps fs) n (one .1)) (λ others last. right (one .0 ∷ others) last) cs rest (one .3) in
     clauses-more ps fs n ws (one .1) (two .1) rest (one .0) (two .0) cs
@@ -122,7 +122,7 @@ pub record Goal-read (predicates functions ws : List ℕ) (t : Term) (mask : ℕ
 
 goal-parts : (ps fs : List ℕ) (a : Term × ℕ) (k : ℕ) (modes ws r₁ r₂ r₃ rest : List ℕ) (g : Term × ℕ)
     → Atom-read ps fs 0 ws (a .0) (a .1) r₁ → Bounded (a .1) (a .1) k r₁ r₂ → Read-words groundMode k modes r₂ r₃
-    → _≡_ {A = Read (Term × ℕ)} (right (a .0, maskOf modes) r₃) (right g rest) → Goal-read ps fs ws (g .0) (g .1) rest
+    → _≡_ {A = Decoded (Term × ℕ)} (right (a .0, maskOf modes) r₃) (right g rest) → Goal-read ps fs ws (g .0) (g .1) rest
 goal-parts ps fs a k modes ws r₁ r₂ r₃ rest g atom-part count-part modes-part q =
     let same : _≡_ {A = Term × ℕ} (a .0, maskOf modes) g = cc in
     let left : r₃ ≡ rest = cc in
@@ -143,11 +143,11 @@ goal-parts ps fs a k modes ws r₁ r₂ r₃ rest g atom-part count-part modes-p
 pub goal-read : (ps fs ws : List ℕ) (g : Term × ℕ) (rest : List ℕ) → goal ps fs ws ≡ right g rest → Goal-read ps fs ws (g .0) (g .1) rest
 unfolding goal
 goal-read ps fs ws g rest e =
-    let behindCount : Term → ℕ → List ℕ → Read (Term × ℕ) = λ t k r. next (several (bounded badGoal anyMode groundMode) k r) (λ modes r′. right (t, maskOf modes) r′) in
-    let behindAtom : Term × ℕ → List ℕ → Read (Term × ℕ) = λ a r. next (bounded badGoal (a .1) (a .1) r) (behindCount (a .0)) in
+    let behindCount : Term → ℕ → List ℕ → Decoded (Term × ℕ) = λ t k r. next (several (bounded badGoal anyMode groundMode) k r) (λ modes r′. right (t, maskOf modes) r′) in
+    let behindAtom : Term × ℕ → List ℕ → Decoded (Term × ℕ) = λ a r. next (bounded badGoal (a .1) (a .1) r) (behindCount (a .0)) in
     let one = next-right (atom ps fs 0 ws) behindAtom g rest e in
     let two = next-right (bounded badGoal (one .0 .1) (one .0 .1) (one .1)) (behindCount (one .0 .0)) g rest (one .3) in
-    let build : List ℕ → List ℕ → Read (Term × ℕ) = λ modes r. right (one .0 .0, maskOf modes) r in
+    let build : List ℕ → List ℕ → Decoded (Term × ℕ) = λ modes r. right (one .0 .0, maskOf modes) r in
     let three = next-right (several (bounded badGoal anyMode groundMode) (two .0) (two .1)) build g rest (two .3) in
     goal-parts ps fs (one .0) (two .0) (three .0) ws (one .1) (two .1) (three .1) rest g
     (atom-read ps fs 0 ws (one .0 .0) (one .0 .1) (one .1) (one .2))

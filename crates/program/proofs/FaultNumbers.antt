@@ -9,7 +9,7 @@ use Rattle.terms.specs.Term.{Terms}
 use Rattle.terms.specs.Cells.{firstVariable, atomCells, pick}
 use Rattle.program.specs.Limits.{maxWords, maxVariable, minPredicates, maxDeclared, maxArity, maxBody, anyMode, groundMode}
 use Rattle.program.specs.Reply.{outOfRange, badGoal, badVariable, longAtom, undeclared, tooLong, noRoom, withdrawn}
-use Rattle.program.specs.Reading.{Read, wrong, right, next, bounded, several}
+use Rattle.program.specs.Reading.{Decoded, wrong, right, next, bounded, several}
 use Rattle.program.specs.Atoms.{meet, variableOf, symbolOf, cellOf, opened, terms, atom, atoms}
 use Rattle.program.specs.Program.{Program}
 use Rattle.program.specs.Faults.{clause, goal, ended, arities, written, declared, whole, Found, fault, sound, foundIn, faults, replyOf}
@@ -23,11 +23,11 @@ abbrev pub FaultNumber : ℕ → Type 0
 FaultNumber number = (0 < number) × (number ≡ noRoom → ⊥) × (number ≡ withdrawn → ⊥)
 
 -- the fault, where there is one, has such a number
-abbrev pub FaultyBy : {A : Type 0} → Read A → Type 0
+abbrev pub FaultyBy : {A : Type 0} → Decoded A → Type 0
 FaultyBy (wrong number rest) = FaultNumber number
 FaultyBy (right a rest) = Unit {0}
 
-faulty-next : {A B : Type 0} (r : Read A) (f : A → List ℕ → Read B) → FaultyBy r → ((a : A) (rest : List ℕ) → FaultyBy (f a rest)) → FaultyBy (next r f)
+faulty-next : {A B : Type 0} (r : Decoded A) (f : A → List ℕ → Decoded B) → FaultyBy r → ((a : A) (rest : List ℕ) → FaultyBy (f a rest)) → FaultyBy (next r f)
 faulty-next (wrong number rest) f h g = h
 faulty-next (right a rest) f h g = g a rest
 
@@ -39,7 +39,7 @@ faulty-bounded number low high n (w ∷ ws) =
     (λ _. pick-cases FaultyBy (leb w high) (right w ws) (wrong number (w ∷ ws)) (λ _. tt) (λ _. n))
     (λ _. n)
 
-faulty-several : {A : Type 0} (part : List ℕ → Read A) → ((ws : List ℕ) → FaultyBy (part ws)) → (n : ℕ) (ws : List ℕ) → FaultyBy (several part n ws)
+faulty-several : {A : Type 0} (part : List ℕ → Decoded A) → ((ws : List ℕ) → FaultyBy (part ws)) → (n : ℕ) (ws : List ℕ) → FaultyBy (several part n ws)
 unfolding several
 faulty-several part h zero ws = tt
 faulty-several part h (suc n) ws =
@@ -64,7 +64,7 @@ faulty-cell functions taken seen w =
     (λ _. pick-cases CellFault (ltb seen (w - firstVariable)) (Bad badVariable) (Opens 0 (meet seen (w - firstVariable))) (λ _. (omega arith)) (λ _. tt))))
     (λ _. (omega arith))
 
-faulty-opened : (cell : Cell) (w : ℕ) (ws : List ℕ) (read : ℕ → ℕ → Read (Terms × ℕ)) → CellFault cell → ((arity seen : ℕ) → FaultyBy (read arity seen)) → FaultyBy (opened cell w ws read)
+faulty-opened : (cell : Cell) (w : ℕ) (ws : List ℕ) (read : ℕ → ℕ → Decoded (Terms × ℕ)) → CellFault cell → ((arity seen : ℕ) → FaultyBy (read arity seen)) → FaultyBy (opened cell w ws read)
 faulty-opened (Bad number) w ws read h g = h
 faulty-opened (Opens arity seen) w ws read h g = faulty-next (read arity seen) _ (g arity seen) (λ _ _. tt)
 
@@ -138,7 +138,7 @@ unfolding faults
 found-fault ws =
     pick-cases FoundFault (ltb maxWords (length ws)) (fault tooLong maxWords) (foundIn ws (whole ws)) (λ _. (omega arith)) (λ _. at (whole ws) (faulty-whole ws))
   where
-    at : (r : Read Program) → FaultyBy r → FoundFault (foundIn ws r)
+    at : (r : Decoded Program) → FaultyBy r → FoundFault (foundIn ws r)
     at (wrong number rest) h = h
     at (right p rest) h = tt
 

@@ -12,7 +12,7 @@ use Rattle.terms.specs.Term.{Term, Terms, app, nil, cons}
 use Rattle.terms.specs.Cells.{firstVariable, atomCells, takeTerms, dropTerms, pick}
 use Rattle.program.specs.Limits.{maxWords, maxVariable, minPredicates, maxDeclared, anyMode, groundMode}
 use Rattle.program.specs.Reply.{outOfRange, badGoal, badVariable, longAtom, undeclared, tooLong}
-use Rattle.program.specs.Reading.{Read, wrong, right, next, bounded, several}
+use Rattle.program.specs.Reading.{Decoded, wrong, right, next, bounded, several}
 use Rattle.program.specs.Atoms.{meet, variableOf, symbolOf, cellOf, opened, terms, atom}
 use Rattle.program.specs.Faults.{goal, ended, arities, clause, written, declared, whole, Found, fault, sound, foundIn, faults}
 use Rattle.program.specs.Program.{Program}
@@ -23,21 +23,21 @@ use Rattle.program.proofs.Taking.{pick-cases}
 use Rattle.program.proofs.OwnShape.{upTo, with-upTo-old, with-upTo-next, own-shape}
 
 -- what was read, where it was read without fault, is P
-abbrev pub Gets : {A : Type 0} → (A → Type 0) → Read A → Type 0
+abbrev pub Gets : {A : Type 0} → (A → Type 0) → Decoded A → Type 0
 Gets P (wrong number rest) = Unit {0}
 Gets P (right a rest) = P a
 
-pub gets-next : {A B : Type 0} (Q : A → Type 0) (P : B → Type 0) (r : Read A) (f : A → List ℕ → Read B)
+pub gets-next : {A B : Type 0} (Q : A → Type 0) (P : B → Type 0) (r : Decoded A) (f : A → List ℕ → Decoded B)
     → Gets Q r → ((a : A) (rest : List ℕ) → Q a → Gets P (f a rest)) → Gets P (next r f)
 gets-next Q P (wrong number rest) f q h = tt
 gets-next Q P (right a rest) f q h = h a rest q
 
 -- whatever was read
-pub gets-any : {A : Type 0} (r : Read A) → Gets (λ _. Unit {0}) r
+pub gets-any : {A : Type 0} (r : Decoded A) → Gets (λ _. Unit {0}) r
 gets-any (wrong number rest) = tt
 gets-any (right a rest) = tt
 
-pub gets-after : {A B : Type 0} (P : B → Type 0) (r : Read A) (f : A → List ℕ → Read B) → ((a : A) (rest : List ℕ) → Gets P (f a rest)) → Gets P (next r f)
+pub gets-after : {A B : Type 0} (P : B → Type 0) (r : Decoded A) (f : A → List ℕ → Decoded B) → ((a : A) (rest : List ℕ) → Gets P (f a rest)) → Gets P (next r f)
 gets-after P r f h = gets-next (λ _. Unit {0}) P r f (gets-any r) (λ a rest _. h a rest)
 
 -- the variables of some terms and then of the others are those of all
@@ -57,7 +57,7 @@ meet-with seen v h =
 abbrev pub InOrder : ℕ → Terms × ℕ → Type 0
 InOrder seen r = mets (upTo seen) (r .0) ≡ upTo (r .1)
 
-module _ (functions : List ℕ) (w : ℕ) (ws : List ℕ) (taken seen : ℕ) (read : ℕ → ℕ → Read (Terms × ℕ)) (below : (arity now : ℕ) → Gets (InOrder now) (read arity now)) where
+module _ (functions : List ℕ) (w : ℕ) (ws : List ℕ) (taken seen : ℕ) (read : ℕ → ℕ → Decoded (Terms × ℕ)) (below : (arity now : ℕ) → Gets (InOrder now) (read arity now)) where
   pub variable-in-order : ltb w firstVariable ≡ false → (v : ℕ) → v ≡ w - firstVariable → v ≤ seen → Gets (InOrder seen) (opened (Opens 0 (meet seen v)) w ws read)
   variable-in-order t v e h =
       gets-next (InOrder (meet seen v)) (InOrder seen) (read 0 (meet seen v)) _ (below 0 (meet seen v))
@@ -144,7 +144,7 @@ accepted-own ws =
     pick-cases (Accepts (λ p. Own (p .goal))) (ltb maxWords (length ws)) (fault tooLong maxWords) (foundIn ws (whole ws)) (λ _. tt)
     (λ _. at (whole ws) (whole-own ws))
   where
-    at : (r : Read Program) → Gets (λ p. Own (p .goal)) r → Accepts (λ p. Own (p .goal)) (foundIn ws r)
+    at : (r : Decoded Program) → Gets (λ p. Own (p .goal)) r → Accepts (λ p. Own (p .goal)) (foundIn ws r)
     at (wrong number rest) q = tt
     at (right p rest) q = q
 

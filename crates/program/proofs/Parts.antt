@@ -13,7 +13,7 @@ use Rattle.terms.specs.declared.cursor.Cursor.{Cursor}
 use Rattle.terms.specs.declared.cursor.Step.the-variants.{Cell, End}
 use Rattle.terms.specs.Cursor.{stepAt, pickStep}
 use Rattle.program.specs.Reply.{tooSoon}
-use Rattle.program.specs.Reading.{Read, wrong, right, next, bounded, several}
+use Rattle.program.specs.Reading.{Decoded, wrong, right, next, bounded, several}
 use Rattle.program.specs.Part.{Meets, itself, none}
 use Rattle.program.specs.declared.part.Part.{Part}
 use Rattle.program.specs.declared.part.Part.the-variants.{Fault, Next}
@@ -46,26 +46,26 @@ from-here words {at} {w} {after} s = rw (s .word, s .on, add-one at) (drop-cons 
 
 module _ (words : List ℕ) where
   -- a fault of the first part is the fault of the whole
-  pub meets-fault : {A B : Type 0} (value : A → ℕ) (value′ : B → ℕ) (n p : ℕ) (r : Read A) (f : A → List ℕ → Read B)
+  pub meets-fault : {A B : Type 0} (value : A → ℕ) (value′ : B → ℕ) (n p : ℕ) (r : Decoded A) (f : A → List ℕ → Decoded B)
       → Meets words value (Fault n p) r → Meets words value′ (Fault n p) (next r f)
   meets-fault value value′ n p (wrong number rest) f m = m
   meets-fault value value′ n p (right a rest) f m = absurd m
 
   -- past the first part, the answer is that for what follows it
-  pub meets-next : {A B : Type 0} (value : A → ℕ) (value′ : B → ℕ) (v : ℕ) (after : Cursor) (part : Part) (r : Read A) (f : A → List ℕ → Read B)
+  pub meets-next : {A B : Type 0} (value : A → ℕ) (value′ : B → ℕ) (v : ℕ) (after : Cursor) (part : Part) (r : Decoded A) (f : A → List ℕ → Decoded B)
       → Meets words value (Next v after) r
       → ((a : A) → v ≡ value a → Meets words value′ part (f a (drop (after .at) words)))
       → Meets words value′ part (next r f)
   meets-next value value′ v after part (wrong number rest) f m g = absurd m
   meets-next value value′ v after part (right a rest) f m g = rw (m .2) (g a (m .0))
 
-  pub meets-right : {A : Type 0} (value : A → ℕ) (v : ℕ) (after : Cursor) (r : Read A) → Meets words value (Next v after) r
+  pub meets-right : {A : Type 0} (value : A → ℕ) (v : ℕ) (after : Cursor) (r : Decoded A) → Meets words value (Next v after) r
       → (a : A) × (v ≡ value a) × (after .at ≤ length words) × (r ≡ right a (drop (after .at) words))
   meets-right value v after (wrong number rest) m = absurd m
   meets-right value v after (right a rest) m = (a, m .0, m .1, ap (right a) (m .2))
 
   -- what is made of a part changes neither its fault nor the place after it
-  pub meets-map : {A B : Type 0} (value : A → ℕ) (value′ : B → ℕ) (part : Part) (r : Read A) (g : A → B)
+  pub meets-map : {A B : Type 0} (value : A → ℕ) (value′ : B → ℕ) (part : Part) (r : Decoded A) (g : A → B)
       → ((a : A) → value a ≡ value′ (g a))
       → Meets words value part r → Meets words value′ part (next r (λ a rest. right (g a) rest))
   meets-map value value′ (Fault n p) (wrong number rest) g e m = m
@@ -74,13 +74,13 @@ module _ (words : List ℕ) where
   meets-map value value′ (Next v after) (right a rest) g e m = (m .0 ∙ e a, m .1, m .2)
 
   -- of what was made of a part nothing but the place after it is wanted
-  pub meets-place : {A B : Type 0} (value : A → ℕ) (v : ℕ) (after : Cursor) (r : Read A) (g : A → B)
+  pub meets-place : {A B : Type 0} (value : A → ℕ) (v : ℕ) (after : Cursor) (r : Decoded A) (g : A → B)
       → Meets words value (Next v after) r → Meets words none (Next 0 after) (next r (λ a rest. right (g a) rest))
   meets-place value v after (wrong number rest) g m = absurd m
   meets-place value v after (right a rest) g m = (refl, m .1, m .2)
 
   -- a place past the first part of the rest is one of the words
-  pub meets-inside : {A : Type 0} (value : A → ℕ) (v : ℕ) (after : Cursor) (r : Read A) → Meets words value (Next v after) r → after .at ≤ length words
+  pub meets-inside : {A : Type 0} (value : A → ℕ) (v : ℕ) (after : Cursor) (r : Decoded A) → Meets words value (Next v after) r → after .at ≤ length words
   meets-inside value v after (wrong number rest) m = absurd m
   meets-inside value v after (right a rest) m = m .1
 
@@ -106,7 +106,7 @@ module _ (words : List ℕ) where
   bounded-within number low high at w after s h l =
       rw (from-here words s, le-leb low w h, le-leb w high l) (refl, omega (arith, s .inside, s .on), refl)
 
-  module _ {A : Type 0} (value : A → ℕ) (part : List ℕ → Read A) where
+  module _ {A : Type 0} (value : A → ℕ) (part : List ℕ → Decoded A) where
     pub several-none : (left : ℕ) (at : Cursor) → left ≤ 0 → at .at ≤ length words → Meets words none (Next 0 at) (several part left (drop (at .at) words))
     unfolding several
     several-none zero at z h = (refl, h, refl)

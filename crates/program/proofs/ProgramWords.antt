@@ -11,7 +11,7 @@ use Rattle.terms.specs.Term.{Term}
 use Rattle.terms.specs.Cells.{enc, Atom, pick}
 use Rattle.program.specs.Limits.{maxWords, minPredicates, maxDeclared, maxArity}
 use Rattle.program.specs.Reply.{outOfRange, tooLong}
-use Rattle.program.specs.Reading.{Read, wrong, right, next, bounded, several}
+use Rattle.program.specs.Reading.{Decoded, wrong, right, next, bounded, several}
 use Rattle.program.specs.Program.{Clause, Program}
 use Rattle.program.specs.Faults.{clause, goal, ended, arities, written, declared, whole, fault, sound, foundIn, faults}
 use Rattle.program.specs.Within.{Each, after, Numbered, modesOf, encodeClauses, encode, WithinClause, WithinLimits}
@@ -60,8 +60,8 @@ written-parts ps fs n ws r₁ (w ∷ r₂) rest cs g p clauses-part goal-part q 
 written-read : (ps fs : List ℕ) (n : ℕ) (ws : List ℕ) (p : Program) (rest : List ℕ) → written ps fs n ws ≡ right p rest → Written-read ps fs n ws p
 unfolding written
 written-read ps fs n ws p rest e =
-    let behindGoal : List Clause → Term × ℕ → List ℕ → Read Program = λ cs g r. ended (programOf ps fs cs g) r in
-    let behindClauses : List Clause → List ℕ → Read Program = λ cs r. next (goal ps fs r) (behindGoal cs) in
+    let behindGoal : List Clause → Term × ℕ → List ℕ → Decoded Program = λ cs g r. ended (programOf ps fs cs g) r in
+    let behindClauses : List Clause → List ℕ → Decoded Program = λ cs r. next (goal ps fs r) (behindGoal cs) in
     let one = next-right (several (clause ps fs) n ws) behindClauses p rest e in
     let two = next-right (goal ps fs (one .1)) (behindGoal (one .0)) p rest (one .3) in
     written-parts ps fs n ws (one .1) (two .1) rest (one .0) (two .0) p
@@ -119,7 +119,7 @@ declared-read : (np nf nc : ℕ) (ws r₁ r₂ r₃ : List ℕ) (p : Program) (r
     → declared np nf nc r₃ ≡ right p rest → Whole-read ws p
 unfolding declared
 declared-read np nf nc ws r₁ r₂ r₃ p rest b₁ b₂ b₃ e =
-    let behindPredicates : List ℕ → List ℕ → Read Program = λ ps r. next (arities nf r) (λ fs r′. written ps fs nc r′) in
+    let behindPredicates : List ℕ → List ℕ → Decoded Program = λ ps r. next (arities nf r) (λ fs r′. written ps fs nc r′) in
     let one = next-right (arities np r₃) behindPredicates p rest e in
     let two = next-right (arities nf (one .1)) (λ fs r. written (one .0) fs nc r) p rest (one .3) in
     whole-parts np nf nc (one .0) (two .0) ws r₁ r₂ r₃ (one .1) (two .1) p b₁ b₂ b₃
@@ -130,8 +130,8 @@ declared-read np nf nc ws r₁ r₂ r₃ p rest b₁ b₂ b₃ e =
 pub whole-read : (ws : List ℕ) (p : Program) (rest : List ℕ) → whole ws ≡ right p rest → Whole-read ws p
 unfolding whole
 whole-read ws p rest e =
-    let behindSecond : ℕ → ℕ → List ℕ → Read Program = λ np nf r. next (bounded outOfRange 0 maxDeclared r) (λ nc r′. declared np nf nc r′) in
-    let behindFirst : ℕ → List ℕ → Read Program = λ np r. next (bounded outOfRange 0 maxDeclared r) (behindSecond np) in
+    let behindSecond : ℕ → ℕ → List ℕ → Decoded Program = λ np nf r. next (bounded outOfRange 0 maxDeclared r) (λ nc r′. declared np nf nc r′) in
+    let behindFirst : ℕ → List ℕ → Decoded Program = λ np r. next (bounded outOfRange 0 maxDeclared r) (behindSecond np) in
     let one = next-right (bounded outOfRange minPredicates maxDeclared ws) behindFirst p rest e in
     let two = next-right (bounded outOfRange 0 maxDeclared (one .1)) (behindSecond (one .0)) p rest (one .3) in
     let three = next-right (bounded outOfRange 0 maxDeclared (two .1)) (λ nc r. declared (one .0) (two .0) nc r) p rest (two .3) in
@@ -156,7 +156,7 @@ found-sound : (ws : List ℕ) (p : Program) → faults ws ≡ sound p → (lengt
 unfolding faults
 found-sound ws p e = by (ltb maxWords (length ws)) refl e
   where
-    found : (r : Read Program) → foundIn ws r ≡ sound p → (rest : List ℕ) × (r ≡ right p rest)
+    found : (r : Decoded Program) → foundIn ws r ≡ sound p → (rest : List ℕ) × (r ≡ right p rest)
     found (wrong number rest) q = let z : _≡_ {A = ℕ} 0 1 = cc in absurd (omega arith)
     found (right a rest) q = (rest, ap (λ (x : Program). right x rest) (let same : a ≡ p = cc in same))
 

@@ -11,7 +11,7 @@ use Rattle.terms.specs.Cells.{encs, Keepss, atomCells, firstVariable, variables
 use Rattle.terms.proofs.Runs.{encs-split, count-take, count-drop, keeps-take, keeps-drop}
 use Rattle.program.specs.Limits.{maxVariable}
 use Rattle.program.specs.Reply.{tooSoon, undeclared, badVariable, longAtom}
-use Rattle.program.specs.Reading.{Read, wrong, right}
+use Rattle.program.specs.Reading.{Decoded, wrong, right}
 use Rattle.program.specs.Atoms.{meet, variableOf, symbolOf, cellOf, build, opened, terms}
 use Rattle.program.specs.Within.{after, afters, Numbereds}
 use Rattle.program.specs.declared.cells.Cell.{Cell}
@@ -101,7 +101,7 @@ unfolding terms
 no-words functions n taken seen = refl
 
 none-read : (functions ws : List ℕ) (taken seen : ℕ) (ts : Terms) (seen′ : ℕ) (rest : List ℕ) → taken ≤ atomCells
-    → _≡_ {A = Read (Terms × ℕ)} (right (nil, seen) ws) (right (ts, seen′) rest) → Terms-read functions ws zero taken seen ts seen′ rest
+    → _≡_ {A = Decoded (Terms × ℕ)} (right (nil, seen) ws) (right (ts, seen′) rest) → Terms-read functions ws zero taken seen ts seen′ rest
 none-read functions ws taken seen ts seen′ rest h q =
     let same : _≡_ {A = Terms × ℕ} (nil, seen) (ts, seen′) = cc in
     let left : ws ≡ rest = cc in
@@ -116,7 +116,7 @@ says-short (variable first high small known) = first
 built-read : (functions ws : List ℕ) (w n taken seen arity now : ℕ) (us ts : Terms) (s seen′ : ℕ) (l rest : List ℕ)
     → Says functions taken seen w (Opens arity now)
     → Terms-read functions ws (arity + n) (suc taken) now us s l
-    → _≡_ {A = Read (Terms × ℕ)} (right (build w arity us, s) l) (right (ts, seen′) rest)
+    → _≡_ {A = Decoded (Terms × ℕ)} (right (build w arity us, s) l) (right (ts, seen′) rest)
     → Terms-read functions (w ∷ ws) (suc n) taken seen ts seen′ rest
 built-read functions ws w n taken seen arity now us ts s seen′ l rest says r q =
     let same : _≡_ {A = Terms × ℕ} (build w arity us, s) (ts, seen′) = cc in

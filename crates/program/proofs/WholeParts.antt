@@ -10,7 +10,7 @@ use Rattle.terms.specs.Term.{Term}
 use Rattle.terms.specs.declared.cursor.Cursor.{Cursor}
 use Rattle.program.specs.Limits.{maxWords, minPredicates, maxDeclared, maxArity}
 use Rattle.program.specs.Reply.{outOfRange, follows, tooLong, refused, done}
-use Rattle.program.specs.Reading.{Read, wrong, right, next, bounded, several}
+use Rattle.program.specs.Reading.{Decoded, wrong, right, next, bounded, several}
 use Rattle.program.specs.Program.{Clause, Program}
 use Rattle.program.specs.Faults.{clause, goal, ended, arities, written, declared, whole, faults, replyOf, foundIn}
 use Rattle.program.specs.Part.{Meets, itself, none}
@@ -31,7 +31,7 @@ module _ (words : List ℕ) where
     abbrev program : List Clause → Term × ℕ → Program
     program cs g = record { predicates = ps; functions = fs; clauses = cs; goal = g .0; ground = g .1 }
 
-    abbrev behindClauses : List Clause → List ℕ → Read Program
+    abbrev behindClauses : List Clause → List ℕ → Decoded Program
     behindClauses cs rest = next (goal ps fs rest) (λ g rest′. ended (program cs g) rest′)
 
     pub written-clauses-fault : (n p : ℕ) → Meets words none (Fault n p) (several (clause ps fs) c ws) → Meets words none (Fault n p) (written ps fs c ws)
@@ -63,7 +63,7 @@ module _ (words : List ℕ) where
             (λ p. ended-end p third (meets-right words none u third (goal ps fs (drop (second .at) words)) goal-read .2) h)
 
   module _ (p f c : ℕ) (from : ℕ) (inside : from ≤ length words) where
-    abbrev behindPredicates : List ℕ → List ℕ → Read Program
+    abbrev behindPredicates : List ℕ → List ℕ → Decoded Program
     behindPredicates ps rest = next (arities f rest) (λ fs rest′. written ps fs c rest′)
 
     pub declared-predicates-fault : (n q : ℕ) → Meets words none (Fault n q) (arities p (drop from words)) → Meets words none (Fault n q) (declared p f c (drop from words))
@@ -117,12 +117,12 @@ module _ (words : List ℕ) where
             let read = meets-right words none u third (arities f (drop (second .at) words)) functions-read in
             functions-span (read .0) (read .3) .0
 
-  abbrev behindFirst : ℕ → List ℕ → Read Program
+  abbrev behindFirst : ℕ → List ℕ → Decoded Program
   behindFirst p rest =
       next (bounded outOfRange 0 maxDeclared rest)
       (λ f rest′. next (bounded outOfRange 0 maxDeclared rest′) (λ c rest″. declared p f c rest″))
 
-  abbrev behindSecond : ℕ → ℕ → List ℕ → Read Program
+  abbrev behindSecond : ℕ → ℕ → List ℕ → Decoded Program
   behindSecond p f rest = next (bounded outOfRange 0 maxDeclared rest) (λ c rest′. declared p f c rest′)
 
   pub whole-first-fault : (n q : ℕ) → Meets words itself (Fault n q) (bounded outOfRange minPredicates maxDeclared words) → Meets words none (Fault n q) (whole words)
@@ -164,7 +164,7 @@ module _ (words : List ℕ) where
   unfolding faults
   scan-fault n p h m = rw (le-ltb _ _ h) (by (whole words) m)
     where
-      by : (r : Read Program) → Meets words none (Fault n p) r → refused n p ≡ replyOf (foundIn words r)
+      by : (r : Decoded Program) → Meets words none (Fault n p) r → refused n p ≡ replyOf (foundIn words r)
       by (wrong number rest) m =
           let size : length words - length rest ≡ p = rw (m .2, length-drop p words) (omega (arith, m .1)) in
           rw (← m .0, size)
@@ -174,6 +174,6 @@ module _ (words : List ℕ) where
   unfolding faults
   scan-sound v after h m = rw (le-ltb _ _ h) (by (whole words) m)
     where
-      by : (r : Read Program) → Meets words none (Next v after) r → done 0 ≡ replyOf (foundIn words r)
+      by : (r : Decoded Program) → Meets words none (Next v after) r → done 0 ≡ replyOf (foundIn words r)
       by (wrong number rest) m = absurd m
       by (right a rest) m = refl

@@ -10,10 +10,10 @@ use lib.Dec.{leb}
 use borrow.Author.Tests.{leb-true, le-leb}
 use Rattle.terms.specs.Cells.{pick}
 use Rattle.program.specs.Within.{Each, none, more}
-use Rattle.program.specs.Reading.{Read, wrong, right, next, bounded, several}
+use Rattle.program.specs.Reading.{Decoded, wrong, right, next, bounded, several}
 
 -- what two parts come to, come to one after the other
-pub next-right : {A B : Type 0} (r : Read A) (f : A → List ℕ → Read B) (b : B) (rest : List ℕ) → next r f ≡ right b rest
+pub next-right : {A B : Type 0} (r : Decoded A) (f : A → List ℕ → Decoded B) (b : B) (rest : List ℕ) → next r f ≡ right b rest
     → (a : A) × (mid : List ℕ) × (r ≡ right a mid) × (f a mid ≡ right b rest)
 next-right (wrong number ws) f b rest e = let z : _≡_ {A = ℕ} 0 1 = cc in absurd (omega arith)
 next-right (right a mid) f b rest e = (a, mid, refl, e)

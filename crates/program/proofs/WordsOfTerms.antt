@@ -10,7 +10,7 @@ use Rattle.terms.specs.Term.{Term, Terms, var, app, nil, cons, count, join}
 use Rattle.terms.specs.Cells.{enc, encs, Keeps, Keepss, atomCells, firstVariable}
 use Rattle.terms.proofs.Runs.{take-join, drop-join, join-nil}
 use Rattle.program.specs.Limits.{maxVariable}
-use Rattle.program.specs.Reading.{Read, wrong, right, next}
+use Rattle.program.specs.Reading.{Decoded, wrong, right, next}
 use Rattle.program.specs.Atoms.{meet, cellOf, build, terms}
 use Rattle.program.specs.Within.{after, afters, Numbered, Numbereds}
 use Rattle.program.specs.declared.cells.Cell.the-variants.{Opens}
@@ -37,10 +37,10 @@ build-variable v us =
     rw (le-ltb _ _ high) (rw same)
 
 -- terms put before the terms that were read
-abbrev pub before : Terms → Read (Terms × ℕ) → Read (Terms × ℕ)
+abbrev pub before : Terms → Decoded (Terms × ℕ) → Decoded (Terms × ℕ)
 before ts r = next r (λ x rest. right (join ts (x .0), x .1) rest)
 
-before-before : (ts us : Terms) (r : Read (Terms × ℕ)) → before ts (before us r) ≡ before (join ts us) r
+before-before : (ts us : Terms) (r : Decoded (Terms × ℕ)) → before ts (before us r) ≡ before (join ts us) r
 before-before ts us (wrong number rest) = refl
 before-before ts us (right x rest) = ap (λ (y : Terms). right (y, x .1) rest) (join-join ts us (x .0))
   where
@@ -48,17 +48,17 @@ before-before ts us (right x rest) = ap (λ (y : Terms). right (y, x .1) rest) (
     join-join nil ys zs = refl
     join-join (cons t xs) ys zs = ap (cons t) (join-join xs ys zs)
 
-before-nil : (r : Read (Terms × ℕ)) → before nil r ≡ r
+before-nil : (r : Decoded (Terms × ℕ)) → before nil r ≡ r
 before-nil (wrong number rest) = refl
 before-nil (right x rest) = refl
 
 -- a function's term is built of its arguments
-before-build : (w : ℕ) (ts : Terms) (r : Read (Terms × ℕ)) → w < firstVariable
+before-build : (w : ℕ) (ts : Terms) (r : Decoded (Terms × ℕ)) → w < firstVariable
     → next (before ts r) (λ x rest. right (build w (count ts) (x .0), x .1) rest) ≡ before (cons (app w ts) nil) r
 before-build w ts (wrong number rest) h = refl
 before-build w ts (right x rest) h = ap (λ (y : Terms). right (y, x .1) rest) (build-function w ts (x .0) h)
 
-variable-build : (v : ℕ) (r : Read (Terms × ℕ)) → next r (λ x rest. right (build (firstVariable + v) 0 (x .0), x .1) rest) ≡ before (cons (var v) nil) r
+variable-build : (v : ℕ) (r : Decoded (Terms × ℕ)) → next r (λ x rest. right (build (firstVariable + v) 0 (x .0), x .1) rest) ≡ before (cons (var v) nil) r
 variable-build v (wrong number rest) = refl
 variable-build v (right x rest) = ap (λ (y : Terms). right (y, x .1) rest) (build-variable v (x .0))
 

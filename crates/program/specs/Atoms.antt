@@ -7,7 +7,7 @@ use Rattle.terms.specs.Term.{Term, Terms, var, app, nil, cons}
 use Rattle.terms.specs.Cells.{firstVariable, atomCells, takeTerms, dropTerms, pick}
 use Rattle.program.specs.Limits.{maxVariable}
 use Rattle.program.specs.Reply.{tooSoon, undeclared, badVariable, longAtom}
-use Rattle.program.specs.Reading.{Read, wrong, right, next}
+use Rattle.program.specs.Reading.{Decoded, wrong, right, next}
 use Rattle.program.specs.declared.cells.Cell.{Cell}
 use Rattle.program.specs.declared.cells.Cell.the-variants.{Bad, Opens}
 
@@ -37,12 +37,12 @@ build w arity ts =
     pick (ltb w firstVariable) (cons (app w (takeTerms arity ts)) (dropTerms arity ts)) (cons (var (w - firstVariable)) ts)
 
 -- what a cell opens, given how to read so many terms after it with so many variables met
-abbrev pub opened : Cell → ℕ → List ℕ → (ℕ → ℕ → Read (Terms × ℕ)) → Read (Terms × ℕ)
+abbrev pub opened : Cell → ℕ → List ℕ → (ℕ → ℕ → Decoded (Terms × ℕ)) → Decoded (Terms × ℕ)
 opened (Bad number) w ws read = wrong number (w ∷ ws)
 opened (Opens arity seen) w ws read = next (read arity seen) (λ r rest. right (build w arity (r .0), r .1) rest)
 
 -- so many terms, of an atom of which so many cells were taken, with so many variables met; the terms and the variables met after them
-unfoldable pub terms : List ℕ → List ℕ → ℕ → ℕ → ℕ → Read (Terms × ℕ)
+unfoldable pub terms : List ℕ → List ℕ → ℕ → ℕ → ℕ → Decoded (Terms × ℕ)
 terms functions [] zero taken seen = right (nil, seen) []
 terms functions [] (suc n) taken seen = wrong tooSoon []
 terms functions (w ∷ ws) zero taken seen = right (nil, seen) (w ∷ ws)
@@ -50,7 +50,7 @@ terms functions (w ∷ ws) (suc n) taken seen =
     opened (cellOf functions taken seen w) w ws (λ arity met. terms functions ws (arity + n) (suc taken) met)
 
 -- "Atoms are in prefix order: a predicate number below P, then its argument terms."
-unfoldable pub atom : List ℕ → List ℕ → ℕ → List ℕ → Read (Term × ℕ)
+unfoldable pub atom : List ℕ → List ℕ → ℕ → List ℕ → Decoded (Term × ℕ)
 atom predicates functions seen [] = wrong tooSoon []
 atom predicates functions seen (w ∷ ws) =
     pick (ltb w (length predicates))
@@ -58,7 +58,7 @@ atom predicates functions seen (w ∷ ws) =
     (wrong undeclared (w ∷ ws))
 
 -- "In each clause, and in the goal, variables are numbered from 0 by first appearance": the variables met go from atom to atom
-unfoldable pub atoms : List ℕ → List ℕ → ℕ → ℕ → List ℕ → Read (List Term × ℕ)
+unfoldable pub atoms : List ℕ → List ℕ → ℕ → ℕ → List ℕ → Decoded (List Term × ℕ)
 atoms predicates functions zero seen ws = right ([], seen) ws
 atoms predicates functions (suc n) seen ws =
     next (atom predicates functions seen ws)

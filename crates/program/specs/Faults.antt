@@ -7,13 +7,13 @@ use Rattle.terms.specs.Term.{Term}
 use Rattle.terms.specs.Cells.{pick}
 use Rattle.program.specs.Limits.{maxWords, minPredicates, maxDeclared, maxArity, maxBody, anyMode, groundMode}
 use Rattle.program.specs.Reply.{outOfRange, badGoal, follows, tooLong, refused, done}
-use Rattle.program.specs.Reading.{Read, wrong, right, next, bounded, several}
+use Rattle.program.specs.Reading.{Decoded, wrong, right, next, bounded, several}
 use Rattle.program.specs.Atoms.{atom, atoms}
 use Rattle.program.specs.Program.{Clause, Program}
 use Rattle.program.specs.declared.reply.Reply.{Reply}
 
 -- "C clauses: a body length m (0 to 16), the head atom, m body atoms"
-unfoldable pub clause : List ℕ → List ℕ → List ℕ → Read Clause
+unfoldable pub clause : List ℕ → List ℕ → List ℕ → Decoded Clause
 clause predicates functions ws =
     next (bounded outOfRange 0 maxBody ws)
     (λ m rest. next (atom predicates functions 0 rest)
@@ -26,7 +26,7 @@ maskOf [] = 0
 maskOf (mode ∷ modes) = mode + 2 * maskOf modes
 
 -- "the top goal: one atom, its variable count k, then k modes (0 any, 1 ground)"; with it the mask of its ground variables
-unfoldable pub goal : List ℕ → List ℕ → List ℕ → Read (Term × ℕ)
+unfoldable pub goal : List ℕ → List ℕ → List ℕ → Decoded (Term × ℕ)
 goal predicates functions ws =
     next (atom predicates functions 0 ws)
     (λ a rest. next (bounded badGoal (a .1) (a .1) rest)
@@ -34,26 +34,26 @@ goal predicates functions ws =
     (λ modes rest″. right (a .0, maskOf modes) rest″)))
 
 -- "something follows the goal"
-abbrev pub ended : {A : Type 0} → A → List ℕ → Read A
+abbrev pub ended : {A : Type 0} → A → List ℕ → Decoded A
 ended a [] = right a []
 ended a (w ∷ ws) = wrong follows (w ∷ ws)
 
-abbrev pub arities : ℕ → List ℕ → Read (List ℕ)
+abbrev pub arities : ℕ → List ℕ → Decoded (List ℕ)
 arities = several (bounded outOfRange 0 maxArity)
 
 -- the clauses and the goal, behind the declarations
-unfoldable pub written : List ℕ → List ℕ → ℕ → List ℕ → Read Program
+unfoldable pub written : List ℕ → List ℕ → ℕ → List ℕ → Decoded Program
 written predicates functions n ws =
     next (several (clause predicates functions) n ws)
     (λ cs rest. next (goal predicates functions rest)
     (λ g rest′. ended (record { predicates = predicates; functions = functions; clauses = cs; goal = g .0; ground = g .1 }) rest′))
 
 -- "P predicate arities, then F function arities, each 0 to 8", and what is written with them
-unfoldable pub declared : ℕ → ℕ → ℕ → List ℕ → Read Program
+unfoldable pub declared : ℕ → ℕ → ℕ → List ℕ → Decoded Program
 declared p f c ws = next (arities p ws) (λ ps rest. next (arities f rest) (λ fs rest′. written ps fs c rest′))
 
 -- "predicate count P (1 to 64), function count F (0 to 64), clause count C (0 to 64)"
-unfoldable pub whole : List ℕ → Read Program
+unfoldable pub whole : List ℕ → Decoded Program
 whole ws =
     next (bounded outOfRange minPredicates maxDeclared ws)
     (λ p rest. next (bounded outOfRange 0 maxDeclared rest)
@@ -66,7 +66,7 @@ pub data Found (A : Type 0) : Type 0 where
   sound : A → Found A
 
 -- "Places are word indexes for programs": a place is the number of words before it
-abbrev pub foundIn : List ℕ → Read Program → Found Program
+abbrev pub foundIn : List ℕ → Decoded Program → Found Program
 foundIn ws (wrong number rest) = fault number (length ws - length rest)
 foundIn ws (right p rest) = sound p
 

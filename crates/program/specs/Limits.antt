@@ -1,9 +1,13 @@
--- The limits of an encoded program and of a table.
+-- The limits of an encoded program, of a text and of a table.
 use Prim.Native.Nat.{ℕ, _+_, _*_}
 
 -- "A lent slice of 16-bit words, at most 2,048"
 abbrev pub maxWords : ℕ
 maxWords = 2048
+
+-- a scenario text: "At most 40,960 bytes."
+abbrev pub maxBytes : ℕ
+maxBytes = 40960
 
 -- "predicate count P (1 to 64), function count F (0 to 64), clause count C (0 to 64)"
 abbrev pub minPredicates : ℕ

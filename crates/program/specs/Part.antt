@@ -6,7 +6,7 @@ use lib.ListN.{length, drop, getD}
 use lib.Dec.{ltb}
 use Rattle.terms.specs.Cells.{pick}
 use Rattle.program.specs.Reply.{tooSoon}
-use Rattle.program.specs.Reading.{Read, wrong, right}
+use Rattle.program.specs.Reading.{Decoded, wrong, right}
 use Rattle.program.specs.Atoms.{cellOf}
 use Rattle.program.specs.declared.part.Part.{Part}
 use Rattle.program.specs.declared.part.Part.the-variants.{Fault, Next}
@@ -16,7 +16,7 @@ use Rattle.program.specs.declared.cells.Taken.{Taken}
 use Rattle.program.specs.declared.cells.Taken.the-variants as takes
 
 -- the same fault at the same place; or the number of what was read, and the place after it
-abbrev pub Meets : {A : Type 0} → List ℕ → (A → ℕ) → Part → Read A → Type 0
+abbrev pub Meets : {A : Type 0} → List ℕ → (A → ℕ) → Part → Decoded A → Type 0
 Meets words value (Fault n place) (wrong number rest) = (n ≡ number) × (place ≤ length words) × (rest ≡ drop place words)
 Meets words value (Fault n place) (right a rest) = ⊥
 Meets words value (Next v after) (wrong number rest) = ⊥

@@ -1,6 +1,5 @@
 // The cells of an atom: their faults, and how many terms each asks for.
 use crate::limits::ATOM_CELLS;
-use crate::limits::FIRST_VARIABLE;
 use crate::limits::MAX_VARIABLE;
 use crate::part::wide;
 use crate::reply::BAD_VARIABLE;
@@ -9,6 +8,7 @@ use crate::reply::TOO_SOON;
 use crate::reply::UNDECLARED;
 use terms::cursor::Cursor;
 use terms::cursor::Step;
+use terms::walk::FIRST_VARIABLE;
 ghost use mathlib.Core.Path.{_≡_};
 ghost use Rattle.program.specs.Atoms.{variableOf, symbolOf, cellOf};
 ghost use Rattle.program.specs.Part.{takenAt};

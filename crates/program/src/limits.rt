@@ -1,6 +1,8 @@
-// The limits of an encoded program and of a table.
+// The limits of an encoded program, of a text and of a table.
 
 pub const MAX_WORDS: usize = 2048;
+
+pub const MAX_BYTES: usize = 40960;
 
 pub const MIN_PREDICATES: usize = 1;
 
@@ -13,8 +15,6 @@ pub const MAX_BODY: usize = 16;
 pub const MAX_VARIABLE: usize = 15;
 
 pub const ATOM_CELLS: usize = 32;
-
-pub const FIRST_VARIABLE: u16 = 32768;
 
 pub const GROUND_MODE: usize = 1;
 

@@ -19,9 +19,9 @@ use Rattle.text.proofs.Cuts.{parts-from, part-within}
 use Rattle.cells.specs.declared.state.Counts.{Counts}
 use Rattle.declarations.specs.declared.lined.Lined.{Lined}
 use Rattle.declarations.specs.declared.lined.Lined.the-variants.{Fault, More, Last}
-use Rattle.cells.specs.Table.{Table, Read, wrong, right, nothing, Scenario, Line, more, last}
+use Rattle.cells.specs.TextSoFar.{TextSoFar, Read, wrong, right, nothing, Scenario, Line, more, last}
 use Rattle.text_lines.specs.Lines.{fieldsOf, ending, linesOf, allLines}
-use Rattle.cells.specs.Room.{tableOf}
+use Rattle.cells.specs.Room.{textSoFar}
 use Rattle.declarations.specs.Held.{Holds, LinedAs, Limited}
 use Rattle.reader.specs.Found.{FoundAs}
 use Rattle.reader.specs.declared.all_lines.Found.the-variants.{Fault as FoundFault, Done}
@@ -32,7 +32,7 @@ afterLine (wrong number place) at m ls = wrong number place
 afterLine (right (more t)) at m ls = linesOf t at m ls
 afterLine (right (last s)) at m ls = ending s at m ls
 
-pub linesOf-more : (t : Table) (at : ℕ) (l m : List ℕ) (ls : List (List ℕ)) → linesOf t at l (m ∷ ls) ≡ afterLine (fieldsOf t at (parts tab l)) (at + length l + 1) m ls
+pub linesOf-more : (t : TextSoFar) (at : ℕ) (l m : List ℕ) (ls : List (List ℕ)) → linesOf t at l (m ∷ ls) ≡ afterLine (fieldsOf t at (parts tab l)) (at + length l + 1) m ls
 linesOf-more t at l m ls = go (fieldsOf t at (parts tab l))
   where
     go : (o : Read Line)
@@ -83,14 +83,14 @@ module _ (text : List ℕ) (at e : ℕ) (h : at ≤ length text) (ends : e ≡ a
   pub line-length : length line ≡ e - at
   line-length = let w = line-within in simp (length-take, length-drop) (omega arith)
 
-  -- the lines from `at` on, of a table
-  abbrev From : Table → Read Scenario
+  -- the lines from `at` on, behind a text so far
+  abbrev From : TextSoFar → Read Scenario
   From t = allLines t at (parts lineFeed (drop at text))
 
   lines-first : parts lineFeed (drop at text) ≡ line ∷ behind lineFeed text e
   lines-first = parts-from lineFeed text at e h ends
 
-  pub text-none : (t : Table) → length text ≤ e → From t ≡ wrong tooSoon e
+  pub text-none : (t : TextSoFar) → length text ≤ e → From t ≡ wrong tooSoon e
   text-none t k =
       let n : at + length line ≡ e = omega (arith, line-length) in
       let none : behind lineFeed text e ≡ [] = rw (le-ltb e (length text) k) in
@@ -110,35 +110,35 @@ module _ (text : List ℕ) (at e : ℕ) (h : at ≤ length text) (ends : e ≡ a
     lines-both =
         lines-first ∙ ap (λ (l : List (List ℕ)). line ∷ l) (rw (lt-ltb e (length text) k, sym (add-one e)) second)
 
-    turn : (t : Table) → From t ≡ afterLine (fieldsOf t at (parts tab line)) (e + 1) line₂ (behind lineFeed text e₂)
+    turn : (t : TextSoFar) → From t ≡ afterLine (fieldsOf t at (parts tab line)) (e + 1) line₂ (behind lineFeed text e₂)
     turn t =
         let n : at + length line + 1 ≡ e + 1 = omega (arith, line-length) in
         ap (allLines t at) lines-both ∙ linesOf-more t at line line₂ (behind lineFeed text e₂)
         ∙ ap (λ (p : ℕ). afterLine (fieldsOf t at (parts tab line)) p line₂ (behind lineFeed text e₂)) n
 
-    pub text-wrong : (t : Table) (number place : ℕ) → fieldsOf t at (parts tab line) ≡ wrong number place → From t ≡ wrong number place
+    pub text-wrong : (t : TextSoFar) (number place : ℕ) → fieldsOf t at (parts tab line) ≡ wrong number place → From t ≡ wrong number place
     text-wrong t number place f = turn t ∙ rw f
 
-    pub text-more : (t t′ : Table) → fieldsOf t at (parts tab line) ≡ right (more t′) → From t ≡ allLines t′ (e + 1) (parts lineFeed (drop (e + 1) text))
+    pub text-more : (t t′ : TextSoFar) → fieldsOf t at (parts tab line) ≡ right (more t′) → From t ≡ allLines t′ (e + 1) (parts lineFeed (drop (e + 1) text))
     text-more t t′ f = turn t ∙ rw f (sym (ap (allLines t′ (e + 1)) second))
 
-    pub text-last : (t : Table) (s : Scenario) → fieldsOf t at (parts tab line) ≡ right (last s) → length text ≤ e + 1 → From t ≡ right s
+    pub text-last : (t : TextSoFar) (s : Scenario) → fieldsOf t at (parts tab line) ≡ right (last s) → length text ≤ e + 1 → From t ≡ right s
     text-last t s f n =
         turn t ∙ rw f (nothing-left (sym second ∙ ap (parts lineFeed) (drop-of-length-le text n)))
       where
         nothing-left : {m : List ℕ} {ls : List (List ℕ)} → m ∷ ls ≡ [] ∷ [] → ending s (e + 1) m ls ≡ right s
         nothing-left {m} {ls} q = let a : m ≡ [] = cc in let b : ls ≡ [] = cc in rw (a, b)
 
-    pub text-follows : (t : Table) (s : Scenario) → fieldsOf t at (parts tab line) ≡ right (last s) → e + 1 < length text → From t ≡ wrong follows (e + 1)
+    pub text-follows : (t : TextSoFar) (s : Scenario) → fieldsOf t at (parts tab line) ≡ right (last s) → e + 1 < length text → From t ≡ wrong follows (e + 1)
     text-follows t s f n =
         turn t ∙ rw f (more-follows s (e + 1) (getD text (e + 1) 0) (drop (suc (e + 1)) text) line₂ (behind lineFeed text e₂) (sym (ap (parts lineFeed) (drop-cons text (e + 1) 0 n)) ∙ second))
 
 -- the answer for a line, by its case
-pub record Came (o : Read Line) (c : Counts) (names marks arities words : List ℕ) : Type 0 where
+pub record Came (o : Read Line) (c : Counts) (names hashes arities words : List ℕ) : Type 0 where
   pub ns : List ℕ
   pub ws : List ℕ
-  pub is : o ≡ right (more (tableOf c ns ws))
-  pub holds : Holds ns ws c names marks arities words
+  pub is : o ≡ right (more (textSoFar c ns ws))
+  pub holds : Holds ns ws c names hashes arities words
 
 pub record Ended (o : Read Line) (count size : ℕ) (names words : List ℕ) : Type 0 where
   pub scenario : Scenario
@@ -159,24 +159,24 @@ kindOfAnswer (Fault number place) = 0
 kindOfAnswer (More c) = 1
 kindOfAnswer (Last words names) = 2
 
-module _ (names marks arities words : List ℕ) where
-  pub lined-is-wrong : (o : Read Line) (number place : ℕ) → LinedAs names marks arities words (Fault number place) o → o ≡ wrong number place
+module _ (names hashes arities words : List ℕ) where
+  pub lined-is-wrong : (o : Read Line) (number place : ℕ) → LinedAs names hashes arities words (Fault number place) o → o ≡ wrong number place
   lined-is-wrong (wrong n p) number place e = cc
   lined-is-wrong (right (more t)) number place e = absurd (let z : _≡_ {A = ℕ} 0 1 = ap kindOfAnswer (e .1) in omega arith)
   lined-is-wrong (right (last s)) number place e = absurd (let z : _≡_ {A = ℕ} 0 2 = ap kindOfAnswer (e .0) in omega arith)
 
-  came : (t : Table) (c d : Counts) → d ≡ c → t ≡ tableOf d (t .names) (t .words) → Holds (t .names) (t .words) d names marks arities words
-      → Came (right (more t)) c names marks arities words
+  came : (t : TextSoFar) (c d : Counts) → d ≡ c → t ≡ textSoFar d (t .names) (t .words) → Holds (t .names) (t .words) d names hashes arities words
+      → Came (right (more t)) c names hashes arities words
   came t c d same is holds =
-      subst (λ (k : Counts). Came (right (more t)) k names marks arities words) same
-      (record { ns = t .names; ws = t .words; is = ap (λ (u : Table). right (more u)) is; holds = holds })
+      subst (λ (k : Counts). Came (right (more t)) k names hashes arities words) same
+      (record { ns = t .names; ws = t .words; is = ap (λ (u : TextSoFar). right (more u)) is; holds = holds })
 
-  pub lined-is-more : (o : Read Line) (c : Counts) → LinedAs names marks arities words (More c) o → Came o c names marks arities words
+  pub lined-is-more : (o : Read Line) (c : Counts) → LinedAs names hashes arities words (More c) o → Came o c names hashes arities words
   lined-is-more (wrong n p) c e = absurd (let z : _≡_ {A = ℕ} 1 0 = ap kindOfAnswer e in omega arith)
   lined-is-more (right (more t)) c e = came t c (e .0) (sym (ap (λ (r : Lined). countsOf r c) (e .1))) (e .2) (e .3)
   lined-is-more (right (last s)) c e = absurd (let z : _≡_ {A = ℕ} 1 2 = ap kindOfAnswer (e .0) in omega arith)
 
-  pub lined-is-last : (o : Read Line) (count size : ℕ) → LinedAs names marks arities words (Last count size) o → Ended o count size names words
+  pub lined-is-last : (o : Read Line) (count size : ℕ) → LinedAs names hashes arities words (Last count size) o → Ended o count size names words
   lined-is-last (wrong n p) count size e = absurd (let z : _≡_ {A = ℕ} 2 0 = ap kindOfAnswer e in omega arith)
   lined-is-last (right (more t)) count size e = absurd (let z : _≡_ {A = ℕ} 2 1 = ap kindOfAnswer (e .1) in omega arith)
   lined-is-last (right (last s)) count size e =
@@ -184,33 +184,33 @@ module _ (names marks arities words : List ℕ) where
       record { scenario = s; is = refl; counted = cc; sized = cc; word-room = e .1; name-room = e .2; few = e .3 }
 
 -- the text read so far, and what is left of it
-pub record Left (text : List ℕ) (c : Counts) (at : ℕ) (names marks arities words : List ℕ) : Type 0 where
+pub record Left (text : List ℕ) (c : Counts) (at : ℕ) (names hashes arities words : List ℕ) : Type 0 where
   pub ns : List ℕ
   pub ws : List ℕ
-  pub holds : Holds ns ws c names marks arities words
-  pub rest : allLines nothing 0 (parts lineFeed text) ≡ allLines (tableOf c ns ws) at (parts lineFeed (drop at text))
+  pub holds : Holds ns ws c names hashes arities words
+  pub rest : allLines nothing 0 (parts lineFeed text) ≡ allLines (textSoFar c ns ws) at (parts lineFeed (drop at text))
 
 -- what holds whenever a line begins
-pub record Reading (text names₀ marks₀ arities₀ words₀ names marks arities words : List ℕ) (c : Counts) (at : ℕ) : Type 0 where
+pub record Reading (text names₀ hashes₀ arities₀ words₀ names hashes arities words : List ℕ) (c : Counts) (at : ℕ) : Type 0 where
   pub within : at ≤ length text
   pub slow : c .words ≤ at + 3
   pub limited : Limited c
   pub name-length : length names ≡ length names₀
-  pub mark-length : length marks ≡ length marks₀
+  pub hash-length : length hashes ≡ length hashes₀
   pub arity-length : length arities ≡ length arities₀
   pub word-length : length words ≡ length words₀
-  pub says : names₀ ≡ inRoom (maxNames * nameBytes) [] → words₀ ≡ inRoom maxWords [] → Left text c at names marks arities words
+  pub says : names₀ ≡ inRoom (maxNames * nameBytes) [] → words₀ ≡ inRoom maxWords [] → Left text c at names hashes arities words
 
 -- before the first line
-pub nothing-read : (text names marks arities words : List ℕ) → names ≡ inRoom (maxNames * nameBytes) [] → words ≡ inRoom maxWords []
-    → Left text (record { predicates = 0; functions = 0; clauses = 0; words = 3 }) 0 names marks arities words
-nothing-read text names marks arities words e f =
+pub nothing-read : (text names hashes arities words : List ℕ) → names ≡ inRoom (maxNames * nameBytes) [] → words ≡ inRoom maxWords []
+    → Left text (record { predicates = 0; functions = 0; clauses = 0; words = 3 }) 0 names hashes arities words
+nothing-read text names hashes arities words e f =
     record {
       ns = [];
       ws = [];
       holds =
           record {
-            kept = record { named = e; sized = refl; arity = λ n h. absurd (omega arith); marked = λ k l h. absurd (omega arith) };
+            kept = record { named = e; sized = refl; arity = λ n h. absurd (omega arith); hashed = λ k l h. absurd (omega arith) };
             word-room = f;
             place = refl;
             enough = omega arith;

@@ -7,7 +7,7 @@ use lib.ListN.{length, take}
 use mathlib.Core.Bool.{Bool, true, false, cond}
 use lib.Dec.{ltb}
 use borrow.Author.Tests.{lt-ltb, le-ltb, ltb-false}
-use Rattle.program.specs.Limits.{maxWords}
+use Rattle.program.specs.Limits.{maxWords, maxBytes}
 use Rattle.program.specs.Reply.{tooLong, noRoom, refused, done}
 use Rattle.program.specs.declared.reply.Reply.{Reply}
 use Rattle.text.specs.Room.{inRoom}
@@ -15,10 +15,10 @@ use Rattle.text.specs.Name.{nameBytes, maxNames}
 use Rattle.text.specs.Line.{parts, lineFeed}
 use Rattle.reader.specs.declared.all_lines.Found.{Found}
 use Rattle.reader.specs.declared.all_lines.Found.the-variants.{Fault, Done}
-use Rattle.cells.specs.Table.{Read, wrong, right, next, nothing, Scenario}
+use Rattle.cells.specs.TextSoFar.{Read, wrong, right, next, nothing, Scenario}
 use Rattle.text_lines.specs.Lines.{allLines}
 use Rattle.reader.specs.Found.{FoundAs, roomed}
-use Rattle.reader.specs.Read.{maxBytes, counted, readOf, inRooms, answerOf, replyOf, wordsIn, namesIn}
+use Rattle.reader.specs.Read.{counted, readOf, inRooms, answerOf, replyOf, readLeft}
 use Rattle.reader.proofs.Hands.{front-is}
 
 pub too-long : (text : List ℕ) → maxBytes < length text → readOf text ≡ wrong tooLong maxBytes
@@ -121,12 +121,12 @@ module _ (words names : ℕ) where
 
 -- the reply and all lent output, by the answer
 pub refused-all : (o : Read Scenario) (number place roomW roomN : ℕ) (ws ns : List ℕ) → o ≡ wrong number place → ws ≡ inRoom roomW [] → ns ≡ inRoom roomN []
-    → (refused number place ≡ replyOf o) × ((ws ≡ wordsIn roomW o) × (ns ≡ namesIn roomN o))
-refused-all o number place roomW roomN ws ns e f g = rw e (refl, (f, g))
+    → (refused number place ≡ replyOf o) × ((ws, ns) ≡ readLeft roomW roomN o)
+refused-all o number place roomW roomN ws ns e f g = rw e (refl, λ i. (f i, g i))
 
 pub accepted-all : (o : Read Scenario) (s : Scenario) (count roomW roomN : ℕ) (ws ns : List ℕ) → o ≡ right s → count ≡ length (s .words)
-    → ws ≡ inRoom roomW (s .words) → ns ≡ inRoom roomN (s .names) → (done count ≡ replyOf o) × ((ws ≡ wordsIn roomW o) × (ns ≡ namesIn roomN o))
-accepted-all o s count roomW roomN ws ns e c f g = rw (e, c) (refl, (f, g))
+    → ws ≡ inRoom roomW (s .words) → ns ≡ inRoom roomN (s .names) → (done count ≡ replyOf o) × ((ws, ns) ≡ readLeft roomW roomN o)
+accepted-all o s count roomW roomN ws ns e c f g = rw (e, c) (refl, λ i. (f i, g i))
 
 -- what fits a room was read
 pub fits-was-read : (words names : ℕ) (o : Read Scenario) (s : Scenario) → next o (inRooms words names) ≡ right s → o ≡ right s

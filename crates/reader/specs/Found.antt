@@ -9,7 +9,7 @@ use Rattle.program.specs.Reply.{noRoom}
 use Rattle.program.specs.Limits.{maxWords}
 use Rattle.text.specs.Name.{nameBytes, maxNames}
 use Rattle.text.specs.Room.{inRoom}
-use Rattle.cells.specs.Table.{Read, wrong, right, Scenario}
+use Rattle.cells.specs.TextSoFar.{Read, wrong, right, Scenario}
 use Rattle.reader.specs.declared.all_lines.Found.{Found}
 use Rattle.reader.specs.declared.all_lines.Found.the-variants.{Fault, Done}
 

@@ -1,20 +1,17 @@
 -- `readOf`: a scenario text's faults, or its words and names; and what `read` hands back of it.
 use Prim.Native.Nat.{ℕ}
+use mathlib.Core.Path.{_≡_}
 use mathlib.Core.Bool.{cond}
 use mathlib.Core.List.{List, []}
 use lib.ListN.{length}
 use lib.Dec.{ltb}
-use Rattle.program.specs.Limits.{maxWords}
+use Rattle.program.specs.Limits.{maxWords, maxBytes}
 use Rattle.program.specs.Reply.{tooLong, noRoom, refused, done}
 use Rattle.program.specs.declared.reply.Reply.{Reply}
 use Rattle.text.specs.Room.{inRoom}
 use Rattle.text.specs.Line.{parts, lineFeed}
-use Rattle.cells.specs.Table.{Read, wrong, right, next, nothing, Scenario}
+use Rattle.cells.specs.TextSoFar.{Read, wrong, right, next, nothing, Scenario}
 use Rattle.text_lines.specs.Lines.{allLines}
-
--- "At most 40,960 bytes."
-abbrev pub maxBytes : ℕ
-maxBytes = 40960
 
 -- "for a text whose words are too many, its length"
 abbrev pub counted : ℕ → Scenario → Read Scenario
@@ -46,3 +43,11 @@ wordsIn room (right s) = inRoom room (s .words)
 abbrev pub namesIn : ℕ → Read Scenario → List ℕ
 namesIn room (wrong number place) = inRoom room []
 namesIn room (right s) = inRoom room (s .names)
+
+-- what `read` leaves, with room for so many words and so many bytes of names: words and names
+abbrev pub readLeft : ℕ → ℕ → Read Scenario → List ℕ × List ℕ
+readLeft words names answer = (wordsIn words answer, namesIn names answer)
+
+-- the promise of `read`: of a text and the two rooms, the reply and what is left in them
+abbrev pub Reads : List ℕ → ℕ → ℕ → Reply → List ℕ × List ℕ → Type 0
+Reads text words names reply left = (reply ≡ replyOf (answerOf text words names)) × (left ≡ readLeft words names (answerOf text words names))

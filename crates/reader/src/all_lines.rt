@@ -14,7 +14,7 @@ ghost use Rattle.program.specs.Limits.{maxWords};
 ghost use Rattle.text.specs.Line.{parts, lineFeed};
 ghost use Rattle.text.specs.Name.{nameBytes, maxNames};
 ghost use Rattle.text.specs.Room.{inRoom};
-ghost use Rattle.cells.specs.Table.{nothing};
+ghost use Rattle.cells.specs.TextSoFar.{nothing};
 ghost use Rattle.text_lines.specs.Lines.{allLines};
 ghost use Rattle.reader.specs.Found.{FoundAs};
 
@@ -29,11 +29,11 @@ pub enum Found {
 pub fn read_lines(
     text: &[u8],
     names: &mut [u8],
-    marks: &mut [u32],
+    hashes: &mut [u32],
     arities: &mut [u16],
     words: &mut [u16],
 ) -> Found
-    requires { ⌜ (length (now text) < 2 ^ 29) × (length (now names) ≡ maxNames * nameBytes) × (length (now marks) ≡ maxNames) × (length (now arities) ≡ maxNames) ⌝ }
+    requires { ⌜ (length (now text) < 2 ^ 29) × (length (now names) ≡ maxNames * nameBytes) × (length (now hashes) ≡ maxNames) × (length (now arities) ≡ maxNames) ⌝ }
     ensures { λ r. ⌜ (now (names .entry) ≡ inRoom (maxNames * nameBytes) [] → now (words .entry) ≡ inRoom maxWords [] → FoundAs (now (names .exit)) (now (words .exit)) r (allLines nothing 0 (parts lineFeed (now (text .entry))))) ⌝ }
 {
     let mut c = Counts {
@@ -51,7 +51,7 @@ pub fn read_lines(
                 place: end,
             };
         }
-        match read_line(&text[at..end], at, c, names, marks, arities, words) {
+        match read_line(&text[at..end], at, c, names, hashes, arities, words) {
             Lined::Fault { number, place } => return Found::Fault { number, place },
             Lined::More(next) => {
                 c = next;

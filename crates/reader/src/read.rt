@@ -1,6 +1,7 @@
 // `read`: from a scenario text to words and names in lent room.
 use crate::all_lines::Found;
 use crate::all_lines::read_lines;
+use program::limits::MAX_BYTES;
 use program::limits::MAX_WORDS;
 use program::reply::ACCEPTED;
 use program::reply::NO_ROOM;
@@ -13,20 +14,18 @@ ghost use lib.ListN.{length, take, getD};
 ghost use Rattle.program.specs.Limits.{maxWords};
 ghost use Rattle.text.specs.Name.{nameBytes, maxNames};
 ghost use Rattle.text.specs.Room.{inRoom};
-ghost use Rattle.reader.specs.Read.{readOf, answerOf, replyOf, wordsIn, namesIn};
+ghost use Rattle.reader.specs.Read.{readOf, Reads};
 ghost use Rattle.reader.specs.Found.{FoundAs, roomed};
-
-pub const MAX_BYTES: usize = 40960;
 
 // "The length comes first (8), then faults from left to right, then a text's word count (8)"
 fn read_text(
     text: &[u8],
     names: &mut [u8],
-    marks: &mut [u32],
+    hashes: &mut [u32],
     arities: &mut [u16],
     words: &mut [u16],
 ) -> Found
-    requires { ⌜ (length (now names) ≡ maxNames * nameBytes) × (length (now marks) ≡ maxNames) × (length (now arities) ≡ maxNames) ⌝ }
+    requires { ⌜ (length (now names) ≡ maxNames * nameBytes) × (length (now hashes) ≡ maxNames) × (length (now arities) ≡ maxNames) ⌝ }
     ensures { λ r. ⌜ (now (names .entry) ≡ inRoom (maxNames * nameBytes) [] → now (words .entry) ≡ inRoom maxWords [] → FoundAs (now (names .exit)) (now (words .exit)) r (readOf (now (text .entry)))) ⌝ }
 {
     if MAX_BYTES < text.len() {
@@ -35,7 +34,7 @@ fn read_text(
             place: MAX_BYTES,
         };
     }
-    match read_lines(text, names, marks, arities, words) {
+    match read_lines(text, names, hashes, arities, words) {
         Found::Fault { number, place } => Found::Fault { number, place },
         Found::Done { words, names } => {
             if MAX_WORDS < words {
@@ -127,18 +126,16 @@ fn hand_names(names: &mut [u8], own: &[u8], count: usize)
 
 // From a scenario text to an encoded program with its names: the reply of document 01, and every lent word after.
 pub fn read(text: &[u8], words: &mut [u16], names: &mut [u8]) -> Reply
-    ensures reply { λ r. ⌜ r ≡ replyOf (answerOf (now (text .entry)) (length (now (words .entry))) (length (now (names .entry)))) ⌝ }
-    ensures of_words { λ r. ⌜ now (words .exit) ≡ wordsIn (length (now (words .entry))) (answerOf (now (text .entry)) (length (now (words .entry))) (length (now (names .entry)))) ⌝ }
-    ensures of_names { λ r. ⌜ now (names .exit) ≡ namesIn (length (now (names .entry))) (answerOf (now (text .entry)) (length (now (words .entry))) (length (now (names .entry)))) ⌝ }
+    ensures { λ r. ⌜ Reads (now (text .entry)) (length (now (words .entry))) (length (now (names .entry))) r (now (words .exit), now (names .exit)) ⌝ }
 {
     let mut own_words = [0u16; 2048];
     let mut own_names = [0u8; 2048];
-    let mut marks = [0u32; 128];
+    let mut hashes = [0u32; 128];
     let mut arities = [0u16; 128];
     let found = read_text(
         text,
         &mut own_names,
-        &mut marks,
+        &mut hashes,
         &mut arities,
         &mut own_words,
     );

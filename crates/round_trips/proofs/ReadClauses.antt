@@ -10,14 +10,14 @@ use Rattle.terms.specs.Term.{Term, Terms, nil}
 use Rattle.terms.specs.Cells.{enc, firstVariable, Atom}
 use Rattle.program.specs.Limits.{maxDeclared, maxBody, anyMode}
 use Rattle.program.specs.Reply.{outOfRange}
-use Rattle.program.specs.Reading.{Read as Part, right as part}
+use Rattle.program.specs.Reading.{Decoded, right as part}
 use Rattle.program.specs.Program.{Clause}
 use Rattle.program.specs.Atoms.{terms, atoms}
 use Rattle.program.specs.Within.{Each, none, more, NumberedAll, encodeAtoms, encodeClauses, WithinClause}
 use Rattle.program.proofs.Taking.{no-terms}
 use Rattle.program.proofs.AtomWords.{Atoms-read, atoms-read}
 use Rattle.text_lines.specs.Keyword.{pred, func, clause}
-use Rattle.cells.specs.Table.{right, Table}
+use Rattle.cells.specs.TextSoFar.{right, TextSoFar}
 use Rattle.cells.specs.Cells.{Row, noCells, cellsOf}
 use Rattle.text_lines.specs.Lines.{withClause, clauseLine}
 use Rattle.declarations.proofs.DeclaredLines.{open-few}
@@ -31,7 +31,7 @@ use Rattle.round_trips.proofs.ReadAtoms.{allTokens, Taken, cells-taken}
 use Rattle.round_trips.proofs.ReadDeclarations.{SoFar, ReadSoFar}
 
 -- the atoms of a whole line
-pub record LineAtoms (t : Table) (ps fs : List ℕ) (query : Bool) (ss : List (List ℕ)) (r : Row) : Type 0 where
+pub record LineAtoms (t : TextSoFar) (ps fs : List ℕ) (query : Bool) (ss : List (List ℕ)) (r : Row) : Type 0 where
   pub all : List Term
   pub taken : atoms ps fs (length all) 0 (r .out) ≡ part (all, r .variables) []
   pub counted : r .atoms ≡ length all
@@ -45,12 +45,12 @@ pub record LineAtoms (t : Table) (ps fs : List ℕ) (query : Bool) (ss : List (L
 none-begun : (fs cells rest : List ℕ) (arguments : Terms) (met : ℕ) → terms fs cells 0 0 0 ≡ part (arguments, met) rest
     → (arguments ≡ nil) × (met ≡ 0) × (rest ≡ cells)
 none-begun fs cells rest arguments met e =
-    let q : _≡_ {A = Part (Terms × ℕ)} (part (nil, 0) cells) (part (arguments, met) rest) = sym (no-terms fs cells 0 0) ∙ e in
+    let q : _≡_ {A = Decoded (Terms × ℕ)} (part (nil, 0) cells) (part (arguments, met) rest) = sym (no-terms fs cells 0 0) ∙ e in
     let same : _≡_ {A = Terms × ℕ} (nil, 0) (arguments, met) = cc in
     let left : cells ≡ rest = cc in
     (sym (ap (λ (x : Terms × ℕ). x .0) same), sym (ap (λ (x : Terms × ℕ). x .1) same), sym left)
 
-pub line-atoms : (t : Table) (ps fs : List ℕ) (query : Bool) (ss : List (List ℕ)) (r : Row) → Taken t ps fs query noCells ss r → LineAtoms t ps fs query ss r
+pub line-atoms : (t : TextSoFar) (ps fs : List ℕ) (query : Bool) (ss : List (List ℕ)) (r : Row) → Taken t ps fs query noCells ss r → LineAtoms t ps fs query ss r
 line-atoms t ps fs query ss r k =
     let before = none-begun fs (k .cells) (k .rest) (k .arguments) (k .met) (k .begun) in
     record {
@@ -64,7 +64,7 @@ line-atoms t ps fs query ss r k =
       tokens = rw (before .0) at (k .tokens);
     }
 
-pub so-declares : (t : Table) (text ps fs : List ℕ) (cs : List Clause) → SoFar t text ps fs cs → Declares t ps fs
+pub so-declares : (t : TextSoFar) (text ps fs : List ℕ) (cs : List Clause) → SoFar t text ps fs cs → Declares t ps fs
 so-declares t text ps fs cs so =
     record { predicates = so .predicates; functions = so .functions; rest = encodeClauses cs; words = so .words; few = so .functions-most }
 
@@ -101,14 +101,14 @@ clauses-written names predicates (b ∷ cs) c =
     ∙ sym (append-assoc (line clause (atomsTokens names predicates (b .head ∷ b .body))) (clauseLines names predicates cs) _)
 
 -- what is known of a clause that was read
-record ClauseLine (t : Table) (ps fs : List ℕ) (ss : List (List ℕ)) (r : Row) : Type 0 where
+record ClauseLine (t : TextSoFar) (ps fs : List ℕ) (ss : List (List ℕ)) (r : Row) : Type 0 where
   is : Clause
   length-is : r .atoms - 1 ≡ length (is .body)
   cells : r .out ≡ enc (is .head) ++ encodeAtoms (is .body)
   within : WithinClause ps fs is
   tokens : ss ≡ atomsTokens (t .names) (t .predicates) (is .head ∷ is .body)
 
-clause-made : (t : Table) (ps fs : List ℕ) (ss : List (List ℕ)) (r : Row) → LineAtoms t ps fs false ss r → ClauseLine t ps fs ss r
+clause-made : (t : TextSoFar) (ps fs : List ℕ) (ss : List (List ℕ)) (r : Row) → LineAtoms t ps fs false ss r → ClauseLine t ps fs ss r
 clause-made t ps fs ss r k = by (k .all) (k .counted) (k .tokens) (atoms-read ps fs (length (k .all)) 0 (r .out) (k .all) (r .variables) [] (k .taken))
   where
     within-of : (h : Term) (body : List Term) → length (h ∷ body) ≤ maxBody + 1 → Each (Atom ps fs) (h ∷ body) → NumberedAll 0 (h ∷ body)
@@ -127,7 +127,7 @@ clause-made t ps fs ss r k = by (k .all) (k .counted) (k .tokens) (atoms-read ps
           tokens = tokens ∙ tokens-any (t .names) (t .predicates) (r .modes) (k .modal .any refl) (h ∷ body);
         }
 
-module _ (t : Table) (text ps fs : List ℕ) (cs : List Clause) (so : SoFar t text ps fs cs) (room : t .clauses < maxDeclared)
+module _ (t : TextSoFar) (text ps fs : List ℕ) (cs : List Clause) (so : SoFar t text ps fs cs) (room : t .clauses < maxDeclared)
     (ss : List (List ℕ)) (r : Row) (c : ClauseLine t ps fs ss r) where
   clause-words : t .words ++ (r .atoms - 1) ∷ r .out ≡ ps ++ (fs ++ encodeClauses (cs ++ c .is ∷ []))
   clause-words =
@@ -164,7 +164,7 @@ module _ (t : Table) (text ps fs : List ℕ) (cs : List Clause) (so : SoFar t te
       }
 
 -- a `clause` line
-pub clause-read : (t t′ : Table) (text : List ℕ) (at : ℕ) (ss : List (List ℕ)) → ReadSoFar t text → clauseLine t at ss ≡ right t′ → ReadSoFar t′ (text ++ line clause ss)
+pub clause-read : (t t′ : TextSoFar) (text : List ℕ) (at : ℕ) (ss : List (List ℕ)) → ReadSoFar t text → clauseLine t at ss ≡ right t′ → ReadSoFar t′ (text ++ line clause ss)
 clause-read t t′ text at ss read e =
     let ps = read .ps in
     let fs = read .fs in

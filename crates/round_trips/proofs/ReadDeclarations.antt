@@ -18,7 +18,7 @@ use Rattle.text.specs.Decimal.{decimal}
 use Rattle.text.specs.declared.token.Number.{Number}
 use Rattle.text.specs.declared.token.Number.the-variants.{None, Value}
 use Rattle.text_lines.specs.Keyword.{pred, func}
-use Rattle.cells.specs.Table.{Read, wrong, right, Table, nothing}
+use Rattle.cells.specs.TextSoFar.{Read, wrong, right, TextSoFar, nothing}
 use Rattle.declarations.specs.Declarations.{declaring, fresh, arityOf, symbolOf, two, withSymbol, declared, predLine, funcLine}
 use Rattle.declarations.specs.declared.declare.Declared.the-variants.{Fault, Symbol}
 use Rattle.declarations.proofs.Symbols.{entry-front}
@@ -30,8 +30,8 @@ use Rattle.round_trips.proofs.ReadParts.{first-right}
 use Rattle.round_trips.proofs.Printed.{each-append}
 use Rattle.round_trips.proofs.ReadNames.{Sound-names, no-names, predicate-sound, function-sound, last-token}
 
--- the table so far is that of these arities and clauses, with sound names, and the text so far is what is written of them
-pub record SoFar (t : Table) (text ps fs : List ℕ) (cs : List Clause) : Type 0 where
+-- the text so far is that of these arities and clauses, with sound names, and its bytes are what is written of them
+pub record SoFar (t : TextSoFar) (text ps fs : List ℕ) (cs : List Clause) : Type 0 where
   pub predicates : t .predicates ≡ length ps
   pub functions : t .functions ≡ length fs
   pub clauses : t .clauses ≡ length cs
@@ -95,15 +95,15 @@ two-right at (name ∷ arity ∷ []) f a e = (name, arity, refl, e)
 two-right at (name ∷ arity ∷ other ∷ ss) f a e = let z : _≡_ {A = ℕ} 0 1 = cc in absurd (omega arith)
 
 -- what is known of a declaration that was read
-record Declaration (t t′ : Table) (predicates functions from n : ℕ) (ss : List (List ℕ)) : Type 0 where
+record Declaration (t t′ : TextSoFar) (predicates functions from n : ℕ) (ss : List (List ℕ)) : Type 0 where
   name : List ℕ
   arity : ℕ
   fields : ss ≡ name ∷ decimal arity ∷ []
   new : fresh (t .names) from n name ≡ true
   small : arity ≤ maxArity
-  table : withSymbol t predicates functions name arity ≡ t′
+  becomes : withSymbol t predicates functions name arity ≡ t′
 
-declared-right : (t t′ : Table) (predicates functions from n at : ℕ) (name arity : List ℕ)
+declared-right : (t t′ : TextSoFar) (predicates functions from n at : ℕ) (name arity : List ℕ)
     → declared t predicates functions name (symbolOf (t .names) from n at name arity) ≡ right t′
     → Declaration t t′ predicates functions from n (name ∷ arity ∷ [])
 declared-right t t′ predicates functions from n at name arity e = by (fresh (t .names) from n name) refl (numberOf arity) refl e
@@ -120,7 +120,7 @@ declared-right t t′ predicates functions from n at name arity e = by (fresh (t
           fields = ap (λ (l : List ℕ). name ∷ l ∷ []) (number-decimal arity v number (omega arith));
           new = new;
           small = few;
-          table = cc;
+          becomes = cc;
         }
 
     by : (b : Bool) → fresh (t .names) from n name ≡ b → (k : Number) → numberOf arity ≡ k
@@ -133,7 +133,7 @@ declared-right t t′ predicates functions from n at name arity e = by (fresh (t
 size-more : (arities : List ℕ) (a : ℕ) → length (arities ++ a ∷ []) ≡ length arities + 1
 size-more arities a = length-append arities (a ∷ [])
 
-module _ (t : Table) (text ps : List ℕ) (name : List ℕ) (a : ℕ) (so : SoFar t text ps [] []) (room : t .predicates < maxDeclared)
+module _ (t : TextSoFar) (text ps : List ℕ) (name : List ℕ) (a : ℕ) (so : SoFar t text ps [] []) (room : t .predicates < maxDeclared)
     (new : fresh (t .names) 0 (t .predicates) name ≡ true) (small : a ≤ maxArity) where
   fresh-predicate : fresh (t .names) 0 (length ps) name ≡ true
   fresh-predicate = rw (so .predicates) at new
@@ -163,7 +163,7 @@ module _ (t : Table) (text ps : List ℕ) (name : List ℕ) (a : ℕ) (so : SoFa
         written = predicate-written;
       }
 
-module _ (t : Table) (text ps fs : List ℕ) (name : List ℕ) (a : ℕ) (so : SoFar t text ps fs []) (room : t .functions < maxDeclared)
+module _ (t : TextSoFar) (text ps fs : List ℕ) (name : List ℕ) (a : ℕ) (so : SoFar t text ps fs []) (room : t .functions < maxDeclared)
     (new : fresh (t .names) (t .predicates) (t .functions) name ≡ true) (small : a ≤ maxArity) where
   fresh-function : fresh (t .names) (length ps) (length fs) name ≡ true
   fresh-function = rw (so .predicates, so .functions) at new
@@ -200,14 +200,14 @@ module _ (t : Table) (text ps fs : List ℕ) (name : List ℕ) (a : ℕ) (so : S
       }
 
 -- what was read so far, of whatever arities and clauses
-pub record ReadSoFar (t : Table) (text : List ℕ) : Type 0 where
+pub record ReadSoFar (t : TextSoFar) (text : List ℕ) : Type 0 where
   pub ps : List ℕ
   pub fs : List ℕ
   pub cs : List Clause
   pub so : SoFar t text ps fs cs
 
 -- (declarations) a `pred` line
-pub pred-read : (t t′ : Table) (text : List ℕ) (at : ℕ) (ss : List (List ℕ)) → ReadSoFar t text → predLine t at ss ≡ right t′ → ReadSoFar t′ (text ++ line pred ss)
+pub pred-read : (t t′ : TextSoFar) (text : List ℕ) (at : ℕ) (ss : List (List ℕ)) → ReadSoFar t text → predLine t at ss ≡ right t′ → ReadSoFar t′ (text ++ line pred ss)
 pred-read t t′ text at ss read e =
     let fields = two-right at ss (λ name arity. cond (eqb (t .functions + t .clauses) 0)
     (cond (ltb (t .predicates) maxDeclared)
@@ -223,13 +223,13 @@ pred-read t t′ text at ss read e =
     by : (ps fs : List ℕ) (cs : List Clause) → SoFar t text ps fs cs → t .functions + t .clauses ≡ 0 → t .predicates < maxDeclared
         → (ss : List (List ℕ)) → Declaration t t′ (t .predicates + 1) (t .functions) 0 (t .predicates) ss → ReadSoFar t′ (text ++ line pred ss)
     by ps [] [] so nothing-else room ss d =
-        rw (d .fields, ← d .table)
+        rw (d .fields, ← d .becomes)
         (record { ps = ps ++ d .arity ∷ []; fs = []; cs = []; so = predicate-declared t text ps (d .name) (d .arity) so room (d .new) (d .small) })
     by ps [] (c ∷ cs) so nothing-else room ss d = absurd (omega (arith, so .clauses))
     by ps (f ∷ fs) cs so nothing-else room ss d = absurd (omega (arith, so .functions))
 
 -- a `func` line
-pub func-read : (t t′ : Table) (text : List ℕ) (at : ℕ) (ss : List (List ℕ)) → ReadSoFar t text → funcLine t at ss ≡ right t′ → ReadSoFar t′ (text ++ line func ss)
+pub func-read : (t t′ : TextSoFar) (text : List ℕ) (at : ℕ) (ss : List (List ℕ)) → ReadSoFar t text → funcLine t at ss ≡ right t′ → ReadSoFar t′ (text ++ line func ss)
 func-read t t′ text at ss read e =
     let fields = two-right at ss (λ name arity. cond (eqb (t .clauses) 0)
     (cond (ltb 0 (t .predicates) && ltb (t .functions) maxDeclared)
@@ -245,6 +245,6 @@ func-read t t′ text at ss read e =
     by : (ps fs : List ℕ) (cs : List Clause) → SoFar t text ps fs cs → t .clauses ≡ 0 → t .functions < maxDeclared
         → (ss : List (List ℕ)) → Declaration t t′ (t .predicates) (t .functions + 1) (t .predicates) (t .functions) ss → ReadSoFar t′ (text ++ line func ss)
     by ps fs [] so nothing-else room ss d =
-        rw (d .fields, ← d .table)
+        rw (d .fields, ← d .becomes)
         (record { ps = ps; fs = fs ++ d .arity ∷ []; cs = []; so = function-declared t text ps fs (d .name) (d .arity) so room (d .new) (d .small) })
     by ps fs (c ∷ cs) so nothing-else room ss d = absurd (omega (arith, so .clauses))

@@ -7,7 +7,7 @@ use mathlib.Core.List.{List, [], _∷_}
 use lib.ListN.{length, getD}
 use lib.Dec.{eqb, ltb, leb}
 use Rattle.terms.specs.Cells.{atomCells}
-use Rattle.program.specs.Limits.{maxDeclared, maxArity, maxBody, maxVariable, maxWords}
+use Rattle.program.specs.Limits.{maxDeclared, maxArity, maxBody, maxVariable, maxWords, maxBytes}
 use Rattle.program.specs.Reply.{accepted, noRoom, outOfRange, undeclared}
 use Rattle.program.proofs.FaultNumbers.{FaultNumber}
 use Rattle.text.specs.Line.{parts, tab, lineFeed}
@@ -24,11 +24,11 @@ use Rattle.cells.specs.declared.look.Look.{Look}
 use Rattle.cells.specs.declared.look.Look.the-variants.{Fault, Symbol, Variable as Met}
 use Rattle.declarations.specs.declared.declare.Declared.{Declared}
 use Rattle.declarations.specs.declared.declare.Declared.the-variants.{Fault as DeclaredFault, Symbol as DeclaredSymbol}
-use Rattle.cells.specs.Table.{Read, wrong, right, next, Table, nothing, Scenario, Line, more, last}
+use Rattle.cells.specs.TextSoFar.{Read, wrong, right, next, TextSoFar, nothing, Scenario, Line, more, last}
 use Rattle.declarations.specs.Declarations.{declaring, fresh, arityOf, symbolOf, two, declared, predLine, funcLine}
 use Rattle.cells.specs.Cells.{Row, modeOf, noCells, namedOf, variableAt, startOf, argumentOf, lookOf, takenAt, complete, cellsOf}
 use Rattle.text_lines.specs.Lines.{withClause, withGoal, clauseLine, queryLine, lineOf, fieldsOf, ending, linesOf, allLines}
-use Rattle.reader.specs.Read.{maxBytes, counted, readOf, inRooms, answerOf, replyOf}
+use Rattle.reader.specs.Read.{counted, readOf, inRooms, answerOf, replyOf}
 use Rattle.reader.proofs.TextLines.{afterLine, linesOf-more}
 
 abbrev pub FaultyBy : {A : Type 0} → Read A → Type 0
@@ -62,12 +62,12 @@ variable-faults seen modes v ground =
     (either LookFaulty (ltb seen v) (omega arith)
     (either LookFaulty (ltb v seen) (either LookFaulty (eqb (getD modes v 0) (modeOf ground)) tt (omega arith)) tt))
 
-start-faults : (t : Table) (atoms : ℕ) (s : List ℕ) (k : Token) → LookFaulty (startOf t atoms s k)
+start-faults : (t : TextSoFar) (atoms : ℕ) (s : List ℕ) (k : Token) → LookFaulty (startOf t atoms s k)
 start-faults t atoms s Wrong = omega arith
 start-faults t atoms s Name = either LookFaulty (ltb maxBody atoms) (omega arith) (named-faults (t .names) (t .words) 0 (t .predicates) s)
 start-faults t atoms s (Variable ground v) = either LookFaulty (ltb maxBody atoms) {x = Fault outOfRange} {y = Fault undeclared} (omega arith) (omega arith)
 
-argument-faults : (t : Table) (r : Row) (s : List ℕ) (k : Token) → LookFaulty (argumentOf t r s k)
+argument-faults : (t : TextSoFar) (r : Row) (s : List ℕ) (k : Token) → LookFaulty (argumentOf t r s k)
 argument-faults t r s Wrong = omega arith
 argument-faults t r s Name =
     either LookFaulty (leb atomCells (r .cells)) (omega arith) (named-faults (t .names) (t .words) (t .predicates) (t .predicates + t .functions) s)
@@ -78,7 +78,7 @@ taken-faults r at (Fault number) h = h
 taken-faults r at (Symbol word arity) h = tt
 taken-faults r at (Met v ground) h = tt
 
-cells-faults : (ss : List (List ℕ)) (t : Table) (query : Bool) (r : Row) (at : ℕ) → FaultyBy (cellsOf t query r at ss)
+cells-faults : (ss : List (List ℕ)) (t : TextSoFar) (query : Bool) (r : Row) (at : ℕ) → FaultyBy (cellsOf t query r at ss)
 cells-faults [] t query r at = either FaultyBy (complete r) tt (omega arith)
 cells-faults (s ∷ ss) t query r at =
     either FaultyBy (query && complete r) (omega arith)
@@ -91,11 +91,11 @@ arity-faults : (at : ℕ) (n : Number) → DeclaredFaulty (arityOf at n)
 arity-faults at None = omega arith
 arity-faults at (Value n) = either DeclaredFaulty (ltb maxArity n) (omega arith) tt
 
-declared-faults : (t : Table) (predicates functions : ℕ) (name : List ℕ) (d : Declared) → DeclaredFaulty d → FaultyBy (declared t predicates functions name d)
+declared-faults : (t : TextSoFar) (predicates functions : ℕ) (name : List ℕ) (d : Declared) → DeclaredFaulty d → FaultyBy (declared t predicates functions name d)
 declared-faults t predicates functions name (DeclaredFault number place) h = h
 declared-faults t predicates functions name (DeclaredSymbol arity) h = tt
 
-symbol-faults : (t : Table) (predicates functions from n at : ℕ) (name arity : List ℕ)
+symbol-faults : (t : TextSoFar) (predicates functions from n at : ℕ) (name arity : List ℕ)
     → FaultyBy (declared t predicates functions name (symbolOf (t .names) from n at name arity))
 symbol-faults t predicates functions from n at name arity =
     declared-faults t predicates functions name (symbolOf (t .names) from n at name arity)
@@ -107,7 +107,7 @@ two-faults at (name ∷ []) f h = omega arith
 two-faults at (name ∷ arity ∷ []) f h = h name arity
 two-faults at (name ∷ arity ∷ other ∷ ss) f h = omega arith
 
-line-faults : (t : Table) (at : ℕ) (k : Kind) (ss : List (List ℕ)) → FaultyBy (lineOf t at k ss)
+line-faults : (t : TextSoFar) (at : ℕ) (k : Kind) (ss : List (List ℕ)) → FaultyBy (lineOf t at k ss)
 line-faults t at Pred ss =
     next-faults (predLine t at ss) (λ t′. right (more t′))
     (two-faults at ss _ (λ name arity. either FaultyBy (eqb (t .functions + t .clauses) 0)
@@ -133,7 +133,7 @@ line-faults t at Query ss =
     (λ s. tt)
 line-faults t at Other ss = omega arith
 
-fields-faults : (t : Table) (at : ℕ) (ss : List (List ℕ)) → FaultyBy (fieldsOf t at ss)
+fields-faults : (t : TextSoFar) (at : ℕ) (ss : List (List ℕ)) → FaultyBy (fieldsOf t at ss)
 fields-faults t at [] = omega arith
 fields-faults t at (k ∷ ss) = line-faults t at (kindOf k) ss
 
@@ -142,12 +142,12 @@ ending-faults s at [] [] = tt
 ending-faults s at [] (m ∷ ls) = omega arith
 ending-faults s at (b ∷ m) ls = omega arith
 
-lines-faults : (ls : List (List ℕ)) (t : Table) (at : ℕ) (l : List ℕ) → FaultyBy (linesOf t at l ls)
+lines-faults : (ls : List (List ℕ)) (t : TextSoFar) (at : ℕ) (l : List ℕ) → FaultyBy (linesOf t at l ls)
 lines-faults [] t at l = omega arith
 lines-faults (m ∷ ls) t at l =
     rw (linesOf-more t at l m ls) (by (fieldsOf t at (parts tab l)) (fields-faults t at (parts tab l)) (λ t′. lines-faults ls t′ (at + length l + 1) m))
   where
-    by : (o : Read Line) → FaultyBy o → ((t′ : Table) → FaultyBy (linesOf t′ (at + length l + 1) m ls)) → FaultyBy (afterLine o (at + length l + 1) m ls)
+    by : (o : Read Line) → FaultyBy o → ((t′ : TextSoFar) → FaultyBy (linesOf t′ (at + length l + 1) m ls)) → FaultyBy (afterLine o (at + length l + 1) m ls)
     by (wrong number place) h ih = h
     by (right (more t′)) h ih = ih t′
     by (right (last s)) h ih = ending-faults s (at + length l + 1) m ls

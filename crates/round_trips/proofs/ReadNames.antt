@@ -12,9 +12,9 @@ use Rattle.text.specs.Token.{isName}
 use Rattle.text.specs.Name.{nameBytes, padded, entry, seek}
 use Rattle.text.proofs.Names.{same-refl}
 use Rattle.text.proofs.Rooms.{length-inRoom}
-use Rattle.cells.specs.Table.{right}
+use Rattle.cells.specs.TextSoFar.{right}
 use Rattle.declarations.specs.Declarations.{fresh}
-use Rattle.cells.proofs.Kepts.{seek-alike}
+use Rattle.cells.proofs.HeldSymbols.{seek-alike}
 use Rattle.declarations.proofs.Symbols.{entry-front, entry-last}
 use Rattle.writer.specs.Names.{isEntry, firstOf, isSound, eachName, namesOf}
 use Rattle.written_lines.specs.Tokens.{nameIn, symbolToken}

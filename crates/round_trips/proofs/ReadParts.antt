@@ -3,7 +3,7 @@ use Prim.Native.Nat.{ℕ}
 use native.Mathlib.Omega.{arith}
 use mathlib.Core.Path.{_≡_, refl}
 use mathlib.Core.Bool.{Bool, true, false, cond}
-use Rattle.cells.specs.Table.{Read, wrong, right, next}
+use Rattle.cells.specs.TextSoFar.{Read, wrong, right, next}
 
 -- what two parts come to, come to one after the other
 pub next-right : {A B : Type 0} (o : Read A) (f : A → Read B) (b : B) → next o f ≡ right b → (a : A) × (o ≡ right a) × (f a ≡ right b)

@@ -11,7 +11,7 @@ use Rattle.terms.specs.Term.{Term}
 use Rattle.terms.specs.Cells.{enc}
 use Rattle.program.specs.Limits.{maxWords}
 use Rattle.program.specs.Reply.{outOfRange}
-use Rattle.program.specs.Reading.{Read as Part, right as part, next as and-then}
+use Rattle.program.specs.Reading.{Decoded, right as part, next as and-then}
 use Rattle.program.specs.Program.{Clause, Program}
 use Rattle.program.specs.Atoms.{atom, atoms}
 use Rattle.program.specs.Faults.{maskOf}
@@ -20,7 +20,7 @@ use Rattle.program.proofs.Words.{next-right as part-right}
 use Rattle.program.proofs.AtomWords.{Atom-read, atom-read}
 use Rattle.program.proofs.Modes.{modes-of-mask, mask-below}
 use Rattle.text_lines.specs.Keyword.{query}
-use Rattle.cells.specs.Table.{right, Table, Scenario}
+use Rattle.cells.specs.TextSoFar.{right, TextSoFar, Scenario}
 use Rattle.cells.specs.Cells.{Row, noCells, cellsOf}
 use Rattle.text_lines.specs.Lines.{withGoal, queryLine}
 use Rattle.written_lines.specs.Tokens.{atomTokens, line}
@@ -44,12 +44,12 @@ pub record ReadProgram (s : Scenario) (text : List ℕ) : Type 0 where
 one-atom : (ps fs : List ℕ) (seen : ℕ) (ws : List ℕ) (g : Term) (v : ℕ) → atoms ps fs 1 seen ws ≡ part (g ∷ [], v) [] → atom ps fs seen ws ≡ part (g, v) []
 unfolding atoms
 one-atom ps fs seen ws g v e =
-    let f : Term × ℕ → List ℕ → Part (List Term × ℕ) = λ a rest. and-then (atoms ps fs 0 (a .1) rest) (λ r rest′. part (a .0 ∷ r .0, r .1) rest′) in
+    let f : Term × ℕ → List ℕ → Decoded (List Term × ℕ) = λ a rest. and-then (atoms ps fs 0 (a .1) rest) (λ r rest′. part (a .0 ∷ r .0, r .1) rest′) in
     let one = part-right (atom ps fs seen ws) f (g ∷ [], v) [] e in
     finish (one .0) (one .1) (one .2) (one .3)
   where
     finish : (a : Term × ℕ) (mid : List ℕ) → atom ps fs seen ws ≡ part a mid
-        → _≡_ {A = Part (List Term × ℕ)} (part (a .0 ∷ [], a .1) mid) (part (g ∷ [], v) []) → atom ps fs seen ws ≡ part (g, v) []
+        → _≡_ {A = Decoded (List Term × ℕ)} (part (a .0 ∷ [], a .1) mid) (part (g ∷ [], v) []) → atom ps fs seen ws ≡ part (g, v) []
     finish a mid is q =
         let same : _≡_ {A = List Term × ℕ} (a .0 ∷ [], a .1) (g ∷ [], v) = cc in
         let left : mid ≡ [] = cc in
@@ -59,13 +59,13 @@ one-atom ps fs seen ws g v e =
         is ∙ ap₂ (λ (x : Term × ℕ) (l : List ℕ). part x l) (ap₂ {C = Term × ℕ} (λ (x : Term) (y : ℕ). (x, y)) goal met) left
 
 -- what is known of the goal that was read
-record GoalLine (t : Table) (ps fs : List ℕ) (ss : List (List ℕ)) (r : Row) : Type 0 where
+record GoalLine (t : TextSoFar) (ps fs : List ℕ) (ss : List (List ℕ)) (r : Row) : Type 0 where
   is : Term
   read : Atom-read ps fs 0 (r .out) is (r .variables) []
   tokens : ss ≡ atomTokens (t .names) (t .predicates) (r .modes) (enc is)
   modal : Modal true r
 
-goal-made : (t : Table) (ps fs : List ℕ) (ss : List (List ℕ)) (r : Row) → LineAtoms t ps fs true ss r → GoalLine t ps fs ss r
+goal-made : (t : TextSoFar) (ps fs : List ℕ) (ss : List (List ℕ)) (r : Row) → LineAtoms t ps fs true ss r → GoalLine t ps fs ss r
 goal-made t ps fs ss r k = by (k .all) (k .counted) (k .tokens) (k .taken)
   where
     by : (all : List Term) → r .atoms ≡ length all → ss ≡ allTokens (t .names) (t .predicates) (r .modes) all
@@ -80,7 +80,7 @@ goal-made t ps fs ss r k = by (k .all) (k .counted) (k .tokens) (k .taken)
         }
     by (g ∷ h ∷ others) count tokens taken = absurd (omega (arith, k .single refl))
 
-module _ (t : Table) (text ps fs : List ℕ) (cs : List Clause) (so : SoFar t text ps fs cs) (some : 0 < t .predicates)
+module _ (t : TextSoFar) (text ps fs : List ℕ) (cs : List Clause) (so : SoFar t text ps fs cs) (some : 0 < t .predicates)
     (ss : List (List ℕ)) (r : Row) (g : GoalLine t ps fs ss r) where
   abbrev readProgram : Program
   readProgram = record { predicates = ps; functions = fs; clauses = cs; goal = g .is; ground = maskOf (r .modes) }
@@ -133,7 +133,7 @@ module _ (t : Table) (text ps fs : List ℕ) (cs : List Clause) (so : SoFar t te
       }
 
 -- the `query` line
-pub query-read : (t : Table) (s : Scenario) (text : List ℕ) (at : ℕ) (ss : List (List ℕ)) → ReadSoFar t text → queryLine t at ss ≡ right s
+pub query-read : (t : TextSoFar) (s : Scenario) (text : List ℕ) (at : ℕ) (ss : List (List ℕ)) → ReadSoFar t text → queryLine t at ss ≡ right s
     → ReadProgram s (text ++ line query ss)
 query-read t s text at ss read e =
     let ps = read .ps in

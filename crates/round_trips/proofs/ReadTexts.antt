@@ -6,14 +6,14 @@ use mathlib.Core.List.{List, [], _∷_, _++_, append-nil, append-assoc}
 use lib.ListN.{length}
 use lib.Dec.{ltb}
 use borrow.Author.Tests.{ltb-false}
-use Rattle.program.specs.Limits.{maxWords}
+use Rattle.program.specs.Limits.{maxWords, maxBytes}
 use Rattle.program.specs.Reply.{tooLong}
 use Rattle.text.specs.Line.{parts, tab, lineFeed}
 use Rattle.text_lines.specs.Keyword.{kindOf}
-use Rattle.cells.specs.Table.{Read, wrong, right, Table, nothing, Scenario, Line, more, last}
+use Rattle.cells.specs.TextSoFar.{Read, wrong, right, TextSoFar, nothing, Scenario, Line, more, last}
 use Rattle.declarations.specs.Declarations.{predLine, funcLine}
 use Rattle.text_lines.specs.Lines.{clauseLine, queryLine, lineOf, fieldsOf, ending, linesOf, allLines}
-use Rattle.reader.specs.Read.{maxBytes, counted, readOf}
+use Rattle.reader.specs.Read.{counted, readOf}
 use Rattle.text_lines.specs.declared.keyword.Kind.{Kind}
 use Rattle.text_lines.specs.declared.keyword.Kind.the-variants.{Pred, Func, Clause, Query, Other}
 use Rattle.text_lines.proofs.LineKinds.{KindIs, kind-is}
@@ -30,7 +30,7 @@ abbrev LineRead : Line → List ℕ → Type 0
 LineRead (more t) text = ReadSoFar t text
 LineRead (last s) text = ReadProgram s text
 
-module _ (t : Table) (text : List ℕ) (at : ℕ) (read : ReadSoFar t text) where
+module _ (t : TextSoFar) (text : List ℕ) (at : ℕ) (read : ReadSoFar t text) where
   kind-read : (k : Kind) (keyword : List ℕ) (ss : List (List ℕ)) (x : Line) → KindIs keyword k → lineOf t at k ss ≡ right x → LineRead x (text ++ line keyword ss)
   kind-read Pred keyword ss x is e =
       let one = next-right (predLine t at ss) (λ t′. right (more t′)) x e in
@@ -64,7 +64,7 @@ ending-read s s′ at [] (m ∷ ls) e = let z : _≡_ {A = ℕ} 0 1 = cc in absu
 ending-read s s′ at (b ∷ m) ls e = let z : _≡_ {A = ℕ} 0 1 = cc in absurd (omega arith)
 
 -- the text from a line on, behind what was read before it
-lines-read : (ls : List (List ℕ)) (t : Table) (at : ℕ) (l text : List ℕ) (s : Scenario) → ReadSoFar t text → linesOf t at l ls ≡ right s
+lines-read : (ls : List (List ℕ)) (t : TextSoFar) (at : ℕ) (l text : List ℕ) (s : Scenario) → ReadSoFar t text → linesOf t at l ls ≡ right s
     → ReadProgram s (text ++ (l ++ behindEach lineFeed ls))
 lines-read [] t at l text s read e = let z : _≡_ {A = ℕ} 0 1 = cc in absurd (omega arith)
 lines-read (m ∷ ls) t at l text s read e =
@@ -76,7 +76,7 @@ lines-read (m ∷ ls) t at l text s read e =
         ∙ ap (λ (x : List ℕ). text ++ x) (append-assoc l (lineFeed ∷ []) (m ++ behindEach lineFeed ls))
 
     by : (o : Read Line) → fieldsOf t at (parts tab l) ≡ o → afterLine o (at + length l + 1) m ls ≡ right s
-        → ((t′ : Table) → ReadSoFar t′ (text ++ (l ++ lineFeed ∷ [])) → linesOf t′ (at + length l + 1) m ls ≡ right s
+        → ((t′ : TextSoFar) → ReadSoFar t′ (text ++ (l ++ lineFeed ∷ [])) → linesOf t′ (at + length l + 1) m ls ≡ right s
         → ReadProgram s (text ++ (l ++ lineFeed ∷ []) ++ (m ++ behindEach lineFeed ls)))
         → ReadProgram s (text ++ (l ++ behindEach lineFeed (m ∷ ls)))
     by (wrong number place) f q ih = let z : _≡_ {A = ℕ} 0 1 = cc in absurd (omega arith)

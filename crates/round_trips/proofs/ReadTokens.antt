@@ -17,13 +17,13 @@ use Rattle.text.specs.Decimal.{decimal}
 use Rattle.text.specs.declared.token.Token.{Token}
 use Rattle.text.specs.declared.token.Token.the-variants.{Wrong, Name, Variable}
 use Rattle.cells.specs.declared.look.Look.the-variants.{Fault, Symbol, Variable as Met}
-use Rattle.cells.specs.Table.{right, Table}
+use Rattle.cells.specs.TextSoFar.{right, TextSoFar}
 use Rattle.cells.specs.Cells.{Row, modeOf, namedOf, variableAt, startOf, argumentOf, lookOf, withSymbol, withVariable, takenAt}
 use Rattle.written_lines.specs.Tokens.{nameIn, symbolToken}
 use Rattle.round_trips.proofs.Tokens.{signByte, Variable-token, variable-token, name-token, name-in-padded, seek-found}
 
 -- the declarations before the clauses: the arities of each kind, in their places
-pub record Declares (t : Table) (ps fs : List ℕ) : Type 0 where
+pub record Declares (t : TextSoFar) (ps fs : List ℕ) : Type 0 where
   pub predicates : t .predicates ≡ length ps
   pub functions : t .functions ≡ length fs
   pub rest : List ℕ
@@ -31,7 +31,7 @@ pub record Declares (t : Table) (ps fs : List ℕ) : Type 0 where
   pub few : length fs ≤ maxDeclared
 
 -- what a token comes to: the row with its cell, and the token that is written for the cell
-pub data Takes (t : Table) (ps fs : List ℕ) (query : Bool) (r : Row) (s : List ℕ) : Row → Type 0 where
+pub data Takes (t : TextSoFar) (ps fs : List ℕ) (query : Bool) (r : Row) (s : List ℕ) : Row → Type 0 where
   starts : {w : ℕ} → r .wanted ≡ 0 → r .atoms ≤ maxBody → w < length ps → s ≡ symbolToken (t .names) w
       → Takes t ps fs query r s (withSymbol r w (getD ps w 0))
   function : {w n : ℕ} → r .wanted ≡ suc n → r .cells < atomCells → w < length fs → s ≡ symbolToken (t .names) (t .predicates + w)
@@ -69,7 +69,7 @@ named-found names words from to s r at r′ h is-name e = by (ltb found to) refl
         }
     by false b q = let z : _≡_ {A = ℕ} 0 1 = cc in absurd (omega arith)
 
-module _ (t : Table) (ps fs : List ℕ) (declares : Declares t ps fs) where
+module _ (t : TextSoFar) (ps fs : List ℕ) (declares : Declares t ps fs) where
   predicate-arity : (w : ℕ) → w < length ps → getD (t .words) w 0 ≡ getD ps w 0
   predicate-arity w h = rw (declares .words) (List·getD-append ps (fs ++ declares .rest) 0 w h)
 
@@ -77,7 +77,7 @@ module _ (t : Table) (ps fs : List ℕ) (declares : Declares t ps fs) where
   function-arity w h =
       rw (declares .words, declares .predicates) (getD-append-add ps (fs ++ declares .rest) w 0 ∙ List·getD-append fs (declares .rest) 0 w h)
 
-module _ (t : Table) (ps fs : List ℕ) (query : Bool) (declares : Declares t ps fs) (r : Row) (at : ℕ) (s : List ℕ) (r′ : Row) where
+module _ (t : TextSoFar) (ps fs : List ℕ) (query : Bool) (declares : Declares t ps fs) (r : Row) (at : ℕ) (s : List ℕ) (r′ : Row) where
   predicate-taken : r .wanted ≡ 0 → isName s ≡ true → (b : Bool) → ltb maxBody (r .atoms) ≡ b
       → takenAt r at (cond b (Fault outOfRange) (namedOf (t .names) (t .words) 0 (t .predicates) s)) ≡ right r′ → Takes t ps fs query r s r′
   predicate-taken none is-name true b q = let z : _≡_ {A = ℕ} 0 1 = cc in absurd (omega arith)

@@ -6,7 +6,7 @@ use lib.ListN.{length}
 use Rattle.program.specs.Program.{Program}
 use Rattle.program.specs.Faults.{sound, faults}
 use Rattle.program.proofs.ProgramWords.{within-sound}
-use Rattle.cells.specs.Table.{right, Scenario}
+use Rattle.cells.specs.TextSoFar.{right, Scenario}
 use Rattle.reader.specs.Read.{readOf}
 use Rattle.writer.specs.Names.{namesOf}
 use Rattle.writer.specs.Write.{writeOf}

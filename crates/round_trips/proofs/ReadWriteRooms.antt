@@ -10,7 +10,7 @@ use Rattle.program.specs.Within.{encode}
 use Rattle.program.specs.Reply.{accepted, noRoom, done}
 use Rattle.text.specs.Room.{inRoom}
 use Rattle.text.specs.Name.{nameBytes}
-use Rattle.cells.specs.Table.{right, Scenario}
+use Rattle.cells.specs.TextSoFar.{right, Scenario}
 use Rattle.reader.specs.Read.{readOf, inRooms, answerOf, replyOf, wordsIn, namesIn}
 use Rattle.reader.proofs.Hands.{front-is}
 use Rattle.writer.specs.Write as writes

@@ -11,7 +11,7 @@ use Rattle.program.specs.Program.{Program}
 use Rattle.program.specs.Faults.{Found, fault, sound, faults}
 use Rattle.program.proofs.FaultNumbers.{fault-number}
 use Rattle.text.specs.Name.{nameBytes}
-use Rattle.cells.specs.Table.{Read, wrong, right, next}
+use Rattle.cells.specs.TextSoFar.{Read, wrong, right, next}
 use Rattle.writer.specs.Names.{isSound, eachName, namesOf}
 use Rattle.writer.specs.Write.{textOf, written, writeOf, roomFor, answerOf, replyOf}
 use Rattle.round_trips.proofs.ReadFaults.{FaultyBy, either, next-faults}

@@ -7,14 +7,14 @@ use mathlib.Core.List.{List, [], _++_, append-assoc}
 use lib.ListN.{length}
 use borrow.Author.Tests.{le-ltb}
 use Rattle.terms.specs.Cells.{enc}
-use Rattle.program.specs.Limits.{maxWords}
+use Rattle.program.specs.Limits.{maxWords, maxBytes}
 use Rattle.program.specs.Program.{Program}
 use Rattle.program.specs.Faults.{Found, fault, sound, faults}
 use Rattle.program.specs.Within.{after, modesOf, encodeClauses, encode, WithinLimits}
 use Rattle.program.proofs.ProgramWords.{sound-encoded, sound-within}
 use Rattle.text_lines.specs.Keyword.{pred, func, query}
-use Rattle.cells.specs.Table.{right, nothing, Scenario}
-use Rattle.reader.specs.Read.{maxBytes, readOf}
+use Rattle.cells.specs.TextSoFar.{right, nothing, Scenario}
+use Rattle.reader.specs.Read.{readOf}
 use Rattle.writer.specs.Names.{namesOf}
 use Rattle.written_lines.specs.Tokens.{atomTokens, line}
 use Rattle.written_lines.specs.Lines.{declarations, clauseLines}
@@ -22,7 +22,7 @@ use Rattle.writer.specs.Write.{textOf, written, writeOf}
 use Rattle.round_trips.proofs.ReadParts.{next-right}
 use Rattle.round_trips.proofs.ReadNames.{Sound-names, names-right}
 use Rattle.round_trips.proofs.WrittenNames.{names-sound}
-use Rattle.round_trips.proofs.WrittenLines.{Reads, reads-same}
+use Rattle.round_trips.proofs.WrittenLines.{ReadsOn, reads-same}
 use Rattle.round_trips.proofs.WrittenDeclarations.{reads-declared}
 use Rattle.round_trips.proofs.WrittenClauses.{reads-clauses}
 use Rattle.round_trips.proofs.WrittenQuery.{reads-query}
@@ -60,7 +60,7 @@ write-written words names text e = found (faults words) refl e
 
 -- the lines of a written text say the words and the names
 reads-text : (p : Program) (names : List ℕ) → WithinLimits p → Sound-names names (length (p .predicates)) (length (p .functions))
-    → Reads nothing (textOf p names) (scenario (encode p) names)
+    → ReadsOn nothing (textOf p names) (scenario (encode p) names)
 unfolding encode
 reads-text p names w s =
     let ps : List ℕ = p .predicates in

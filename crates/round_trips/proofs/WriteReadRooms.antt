@@ -6,10 +6,11 @@ use mathlib.Core.List.{List}
 use lib.ListN.{length, take}
 use lib.Dec.{ltb}
 use borrow.Author.Tests.{le-ltb, ltb-false}
+use Rattle.program.specs.Limits.{maxBytes}
 use Rattle.program.specs.Reply.{accepted, noRoom, done}
 use Rattle.text.specs.Room.{inRoom}
-use Rattle.cells.specs.Table.{right}
-use Rattle.reader.specs.Read.{maxBytes, answerOf, replyOf, wordsIn, namesIn}
+use Rattle.cells.specs.TextSoFar.{right}
+use Rattle.reader.specs.Read.{answerOf, replyOf, wordsIn, namesIn}
 use Rattle.reader.proofs.Hands.{front-is}
 use Rattle.writer.specs.Write as writes
 use Rattle.round_trips.proofs.ReadParts.{next-right, second-right}

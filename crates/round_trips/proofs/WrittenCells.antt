@@ -20,7 +20,7 @@ use Rattle.text.specs.Name.{padded, seek}
 use Rattle.text.specs.declared.token.Token.the-variants.{Variable}
 use Rattle.text.proofs.Tokens.{tokenOf-name}
 use Rattle.cells.specs.declared.look.Look.the-variants.{Fault, Symbol, Variable as Met}
-use Rattle.cells.specs.Table.{Table}
+use Rattle.cells.specs.TextSoFar.{TextSoFar}
 use Rattle.cells.specs.Cells.{Row, modeOf, lookOf}
 use Rattle.written_lines.specs.Tokens.{symbolToken, variableToken}
 use Rattle.round_trips.proofs.PrintedNumbers.{number-printed}
@@ -50,12 +50,12 @@ getD-modes ms (suc k) v h = go (decLt v k) (getD-modes ms k v)
         let last : v ≡ k = omega arith in
         rw last (getD-at (modesUpTo ms k) (getD ms k 0) [] 0 k (length-modesUpTo ms k))
 
--- the table behind the declarations, with the clauses' words
-abbrev pub declaredTable : List ℕ → List ℕ → List ℕ → ℕ → List ℕ → Table
-declaredTable names ps fs n ws =
+-- the text so far, behind the declarations, with the clauses' words
+abbrev pub declaredSoFar : List ℕ → List ℕ → List ℕ → ℕ → List ℕ → TextSoFar
+declaredSoFar names ps fs n ws =
     record { predicates = length ps; functions = length fs; clauses = n; names = names; words = ps ++ (fs ++ ws) }
 
--- more words behind the table's
+-- more words behind those so far
 pub words-behind : (ps fs ws more : List ℕ) → (ps ++ (fs ++ ws)) ++ more ≡ ps ++ (fs ++ (ws ++ more))
 words-behind ps fs ws more = append-assoc ps (fs ++ ws) more ∙ ap (λ (l : List ℕ). ps ++ l) (append-assoc fs ws more)
 
@@ -76,12 +76,12 @@ variable-read query ms v h (inr ground) =
 
 module _ (names ps fs : List ℕ) (n : ℕ) (ws : List ℕ) (query : Bool) (ms : List ℕ)
     (sound : Sound-names names (length ps) (length fs)) where
-  abbrev table : Table
-  table = declaredTable names ps fs n ws
+  abbrev so-far : TextSoFar
+  so-far = declaredSoFar names ps fs n ws
 
   -- the first token of an atom
   pub start-symbol : (w atoms cells seen : ℕ) (out : List ℕ) → w < length ps → atoms ≤ maxBody
-      → lookOf table query (rowAt ms atoms 0 cells seen out) (symbolToken names w) ≡ Symbol w (getD ps w 0)
+      → lookOf so-far query (rowAt ms atoms 0 cells seen out) (symbolToken names w) ≡ Symbol w (getD ps w 0)
   start-symbol w atoms cells seen out h few =
       let s : Sound-name names (length ps) w = sound-name sound w (omega arith) in
       let at : seek names (padded (symbolToken names w)) 0 (length ps - 0) ≡ w
@@ -91,7 +91,7 @@ module _ (names ps fs : List ℕ) (n : ℕ) (ws : List ℕ) (query : Bool) (ms :
 
   -- an argument's token
   pub argument-symbol : (f atoms m cells seen : ℕ) (out : List ℕ) → f < length fs → cells < atomCells
-      → lookOf table query (rowAt ms atoms (suc m) cells seen out) (symbolToken names (length ps + f)) ≡ Symbol f (getD fs f 0)
+      → lookOf so-far query (rowAt ms atoms (suc m) cells seen out) (symbolToken names (length ps + f)) ≡ Symbol f (getD fs f 0)
   argument-symbol f atoms m cells seen out h few =
       let s : Sound-name names (length ps) (length ps + f) = sound-name sound (length ps + f) (omega arith) in
       let below : length ps + f < length ps + length fs = omega arith in
@@ -104,7 +104,7 @@ module _ (names ps fs : List ℕ) (n : ℕ) (ws : List ℕ) (query : Bool) (ms :
 
   pub argument-variable : (v atoms m cells seen : ℕ) (out : List ℕ) (ground : Bool) → v < variables → v ≤ seen → cells < atomCells
       → tokenOf query (variableToken ms v) ≡ Variable ground v → modeOf ground ≡ getD ms v 0
-      → lookOf table query (rowAt ms atoms (suc m) cells seen out) (variableToken ms v) ≡ Met v ground
+      → lookOf so-far query (rowAt ms atoms (suc m) cells seen out) (variableToken ms v) ≡ Met v ground
   argument-variable v atoms m cells seen out ground h known few is mode =
       let wanting : eqb (suc m) 0 ≡ false = ne-eqb (suc m) 0 (λ (e : suc m ≡ 0). omega arith) in
       let small : v ≤ maxVariable = omega arith in

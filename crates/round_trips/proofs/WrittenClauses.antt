@@ -16,16 +16,16 @@ use Rattle.program.specs.Program.{Clause}
 use Rattle.program.specs.Within.{Each, none, more, after, NumberedAll, encodeAtoms, encodeClauses, WithinClause}
 use Rattle.program.proofs.AtomWords.{afterAll}
 use Rattle.text_lines.specs.Keyword.{clause}
-use Rattle.cells.specs.Table.{right, more as goesOn, Scenario}
+use Rattle.cells.specs.TextSoFar.{right, more as goesOn, Scenario}
 use Rattle.text_lines.specs.Lines.{fieldsOf}
 use Rattle.written_lines.specs.Tokens.{atomsTokens, line}
 use Rattle.written_lines.specs.Lines.{clauseLines}
 use Rattle.round_trips.proofs.Printed.{name-printed}
 use Rattle.round_trips.proofs.ReadNames.{Sound-names}
-use Rattle.round_trips.proofs.WrittenCells.{Mode, declaredTable, words-behind, rowAt}
+use Rattle.round_trips.proofs.WrittenCells.{Mode, declaredSoFar, words-behind, rowAt}
 use Rattle.round_trips.proofs.WrittenAtoms.{TakesTo, take-atom, take-end}
 use Rattle.round_trips.proofs.WrittenTokens.{atoms-printed}
-use Rattle.round_trips.proofs.WrittenLines.{Reads, reads-same, line-more}
+use Rattle.round_trips.proofs.WrittenLines.{ReadsOn, reads-same, line-more}
 
 module _ (names ps fs : List ℕ) (sound : Sound-names names (length ps) (length fs)) where
   -- no variable of a clause is marked
@@ -36,7 +36,7 @@ module _ (names ps fs : List ℕ) (sound : Sound-names names (length ps) (length
   take-atoms : (n : ℕ) (ws : List ℕ) (ts : List Term) (atoms cells seen : ℕ) (out : List ℕ) → Each (Atom ps fs) ts → NumberedAll seen ts
       → atoms + length ts ≤ suc maxBody → 0 < atoms + length ts
       → (last : ℕ)
-      × TakesTo (declaredTable names ps fs n ws) false (rowAt [] atoms 0 cells seen out) (atomsTokens names (length ps) ts)
+      × TakesTo (declaredSoFar names ps fs n ws) false (rowAt [] atoms 0 cells seen out) (atomsTokens names (length ps) ts)
       (rowAt [] (atoms + length ts) 0 last (afterAll seen ts) (out ++ encodeAtoms ts))
   take-atoms n ws [] atoms cells seen out none numbered few some =
       (cells, rw (add-zero atoms, append-nil out) (take-end names ps fs n ws false [] sound unmarked atoms cells seen out (omega arith)))
@@ -50,8 +50,8 @@ module _ (names ps fs : List ℕ) (sound : Sound-names names (length ps) (length
       )
 
   clause-read : (n : ℕ) (ws : List ℕ) (c : Clause) (at : ℕ) → 0 < length ps → n < maxDeclared → WithinClause ps fs c
-      → fieldsOf (declaredTable names ps fs n ws) at (clause ∷ atomsTokens names (length ps) (c .head ∷ c .body))
-      ≡ right (goesOn (declaredTable names ps fs (suc n) (ws ++ length (c .body) ∷ encodeAtoms (c .head ∷ c .body))))
+      → fieldsOf (declaredSoFar names ps fs n ws) at (clause ∷ atomsTokens names (length ps) (c .head ∷ c .body))
+      ≡ right (goesOn (declaredSoFar names ps fs (suc n) (ws ++ length (c .body) ∷ encodeAtoms (c .head ∷ c .body))))
   clause-read n ws c at some few w =
       let short : length (c .body) ≤ maxBody = w .body in
       let taken = take-atoms n ws (c .head ∷ c .body) 0 0 0 [] (more (w .head-atom) (w .body-atoms)) (w .numbered) (omega arith) (omega arith) in
@@ -66,8 +66,8 @@ module _ (names ps fs : List ℕ) (sound : Sound-names names (length ps) (length
       )
 
   pub reads-clauses : (n : ℕ) (ws : List ℕ) (cs : List Clause) (rest : List ℕ) (s : Scenario) → 0 < length ps → n + length cs ≤ maxDeclared
-      → Each (WithinClause ps fs) cs → Reads (declaredTable names ps fs (n + length cs) (ws ++ encodeClauses cs)) rest s
-      → Reads (declaredTable names ps fs n ws) (clauseLines names (length ps) cs ++ rest) s
+      → Each (WithinClause ps fs) cs → ReadsOn (declaredSoFar names ps fs (n + length cs) (ws ++ encodeClauses cs)) rest s
+      → ReadsOn (declaredSoFar names ps fs n ws) (clauseLines names (length ps) cs ++ rest) s
   reads-clauses n ws [] rest s some few none r = rw (add-zero n, append-nil ws) at r
   reads-clauses n ws (c ∷ cs) rest s some few (more w each) r =
       let tokens : List (List ℕ) = atomsTokens names (length ps) (c .head ∷ c .body) in
@@ -76,10 +76,10 @@ module _ (names ps fs : List ℕ) (sound : Sound-names names (length ps) (length
       let behind : (ws ++ words) ++ encodeClauses cs ≡ ws ++ encodeClauses (c ∷ cs)
       = append-assoc ws words (encodeClauses cs)
       ∙ ap (λ (l : List ℕ). ws ++ length (c .body) ∷ l) (append-assoc (enc (c .head)) (encodeAtoms (c .body)) (encodeClauses cs)) in
-      reads-same (declaredTable names ps fs n ws) (clauseLines names (length ps) (c ∷ cs) ++ rest)
+      reads-same (declaredSoFar names ps fs n ws) (clauseLines names (length ps) (c ∷ cs) ++ rest)
       (line clause tokens ++ (clauseLines names (length ps) cs ++ rest)) s (append-assoc (line clause tokens) (clauseLines names (length ps) cs) rest)
-      (line-more (declaredTable names ps fs n ws) clause tokens (name-printed clause refl .bytes)
+      (line-more (declaredSoFar names ps fs n ws) clause tokens (name-printed clause refl .bytes)
       (atoms-printed names ps fs sound (c .head ∷ c .body) (more (w .head-atom) (w .body-atoms)))
-      (clauseLines names (length ps) cs ++ rest) (declaredTable names ps fs (suc n) (ws ++ words)) s
+      (clauseLines names (length ps) cs ++ rest) (declaredSoFar names ps fs (suc n) (ws ++ words)) s
       (λ at. clause-read n ws c at some (omega arith) w)
       (reads-clauses (suc n) (ws ++ words) cs rest s some (omega arith) each (rw (number, behind) r)))

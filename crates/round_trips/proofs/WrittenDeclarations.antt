@@ -13,7 +13,7 @@ use Rattle.program.specs.Within.{Each, none, more}
 use Rattle.text.specs.Name.{nameBytes, padded, seek}
 use Rattle.text.specs.Decimal.{decimal}
 use Rattle.text_lines.specs.Keyword.{pred, func}
-use Rattle.cells.specs.Table.{right, Table, nothing, more as goesOn, Scenario}
+use Rattle.cells.specs.TextSoFar.{right, TextSoFar, nothing, more as goesOn, Scenario}
 use Rattle.declarations.specs.Declarations.{symbolOf}
 use Rattle.declarations.specs.declared.declare.Declared.the-variants.{Symbol}
 use Rattle.text_lines.specs.Lines.{fieldsOf}
@@ -24,8 +24,8 @@ use Rattle.round_trips.proofs.Printed.{Bytes, Printed, name-printed}
 use Rattle.round_trips.proofs.PrintedNumbers.{number-printed}
 use Rattle.round_trips.proofs.ReadNames.{Sound-names}
 use Rattle.round_trips.proofs.WrittenNames.{sound-name, Sound-name, firstNames, names-more, name-new, first-predicate, first-function}
-use Rattle.round_trips.proofs.WrittenCells.{declaredTable}
-use Rattle.round_trips.proofs.WrittenLines.{Reads, line-more}
+use Rattle.round_trips.proofs.WrittenCells.{declaredSoFar}
+use Rattle.round_trips.proofs.WrittenLines.{ReadsOn, line-more}
 
 pub arity-printed : (arity : ℕ) → arity ≤ maxArity → Printed (decimal arity)
 arity-printed arity h = let d = number-printed arity (omega arith) in record { bytes = d .bytes; short = omega (arith, d .short) }
@@ -42,18 +42,18 @@ symbol-new names predicates from m i arity at is e l sound h =
       le-ltb maxArity arity h,
     )
 
--- the table after i symbols, of predicates alone
-abbrev predicatesTable : List ℕ → ℕ → List ℕ → Table
-predicatesTable names i ws = record { predicates = i; functions = 0; clauses = 0; names = firstNames names i; words = ws }
+-- the text so far, after i symbols, of predicates alone
+abbrev predicatesSoFar : List ℕ → ℕ → List ℕ → TextSoFar
+predicatesSoFar names i ws = record { predicates = i; functions = 0; clauses = 0; names = firstNames names i; words = ws }
 
 -- and of so many predicates, and functions behind them
-abbrev functionsTable : List ℕ → ℕ → ℕ → List ℕ → Table
-functionsTable names p i ws = record { predicates = p; functions = i - p; clauses = 0; names = firstNames names i; words = ws }
+abbrev functionsSoFar : List ℕ → ℕ → ℕ → List ℕ → TextSoFar
+functionsSoFar names p i ws = record { predicates = p; functions = i - p; clauses = 0; names = firstNames names i; words = ws }
 
 module _ (names : List ℕ) (predicates functions : ℕ) (sound : Sound-names names predicates functions) where
   pred-read : (i arity : ℕ) (ws : List ℕ) (at : ℕ) → i < predicates → predicates ≤ maxDeclared → arity ≤ maxArity
-      → fieldsOf (predicatesTable names i ws) at (pred ∷ symbolToken names i ∷ decimal arity ∷ [])
-      ≡ right (goesOn (predicatesTable names (suc i) (ws ++ arity ∷ [])))
+      → fieldsOf (predicatesSoFar names i ws) at (pred ∷ symbolToken names i ∷ decimal arity ∷ [])
+      ≡ right (goesOn (predicatesSoFar names (suc i) (ws ++ arity ∷ [])))
   pred-read i arity ws at h most small =
       let s : Sound-name names predicates i = sound-name sound i (omega arith) in
       let room : i * nameBytes ≤ length names = omega (arith, sound .sized) in
@@ -66,8 +66,8 @@ module _ (names : List ℕ) (predicates functions : ℕ) (sound : Sound-names na
       )
 
   func-read : (i arity : ℕ) (ws : List ℕ) (at : ℕ) → 0 < predicates → predicates ≤ i → i < predicates + functions → functions ≤ maxDeclared → arity ≤ maxArity
-      → fieldsOf (functionsTable names predicates i ws) at (func ∷ symbolToken names i ∷ decimal arity ∷ [])
-      ≡ right (goesOn (functionsTable names predicates (suc i) (ws ++ arity ∷ [])))
+      → fieldsOf (functionsSoFar names predicates i ws) at (func ∷ symbolToken names i ∷ decimal arity ∷ [])
+      ≡ right (goesOn (functionsSoFar names predicates (suc i) (ws ++ arity ∷ [])))
   func-read i arity ws at some h few most small =
       let s : Sound-name names predicates i = sound-name sound i few in
       let room : i * nameBytes ≤ length names = omega (arith, sound .sized) in
@@ -81,44 +81,44 @@ module _ (names : List ℕ) (predicates functions : ℕ) (sound : Sound-names na
         one,
       )
 
-  -- declarations of one kind, one by one; `table` is the table by the symbols so far
-  reads-declarations : (keyword : List ℕ) (table : ℕ → List ℕ → Table) (from to : ℕ) → Bytes keyword → to ≤ predicates + functions
+  -- declarations of one kind, one by one; `so-far` is the text so far by its symbols
+  reads-declarations : (keyword : List ℕ) (so-far : ℕ → List ℕ → TextSoFar) (from to : ℕ) → Bytes keyword → to ≤ predicates + functions
       → ((i arity : ℕ) (ws : List ℕ) (at : ℕ) → from ≤ i → i < to → arity ≤ maxArity
-      → fieldsOf (table i ws) at (keyword ∷ symbolToken names i ∷ decimal arity ∷ []) ≡ right (goesOn (table (suc i) (ws ++ arity ∷ []))))
+      → fieldsOf (so-far i ws) at (keyword ∷ symbolToken names i ∷ decimal arity ∷ []) ≡ right (goesOn (so-far (suc i) (ws ++ arity ∷ []))))
       → (i : ℕ) (arities ws rest : List ℕ) (s : Scenario) → from ≤ i → i + length arities ≡ to → Each (λ arity. arity ≤ maxArity) arities
-      → Reads (table to (ws ++ arities)) rest s → Reads (table i ws) (declarations keyword names i arities ++ rest) s
-  reads-declarations keyword table from to k few step i [] ws rest s l e none r =
+      → ReadsOn (so-far to (ws ++ arities)) rest s → ReadsOn (so-far i ws) (declarations keyword names i arities ++ rest) s
+  reads-declarations keyword so-far from to k few step i [] ws rest s l e none r =
       let same : i ≡ to = omega arith in
       rw same (rw (append-nil ws) at r)
-  reads-declarations keyword table from to k few step i (arity ∷ arities) ws rest s l e (more h each) r =
+  reads-declarations keyword so-far from to k few step i (arity ∷ arities) ws rest s l e (more h each) r =
       let printed : Printed (symbolToken names i) = name-printed (symbolToken names i) (sound-name sound i (omega arith) .name) in
       rw (append-assoc (line keyword (symbolToken names i ∷ decimal arity ∷ [])) (declarations keyword names (suc i) arities) rest)
-      (line-more (table i ws) keyword (symbolToken names i ∷ decimal arity ∷ []) k (more printed (more (arity-printed arity h) none))
-      (declarations keyword names (suc i) arities ++ rest) (table (suc i) (ws ++ arity ∷ [])) s (λ at. step i arity ws at l (omega arith) h)
-      (reads-declarations keyword table from to k few step (suc i) arities (ws ++ arity ∷ []) rest s (omega arith) (omega arith) each
+      (line-more (so-far i ws) keyword (symbolToken names i ∷ decimal arity ∷ []) k (more printed (more (arity-printed arity h) none))
+      (declarations keyword names (suc i) arities ++ rest) (so-far (suc i) (ws ++ arity ∷ [])) s (λ at. step i arity ws at l (omega arith) h)
+      (reads-declarations keyword so-far from to k few step (suc i) arities (ws ++ arity ∷ []) rest s (omega arith) (omega arith) each
       (rw (append-assoc ws (arity ∷ []) arities) r)))
 
 -- all declarations, and what is read behind them
 pub reads-declared : (names ps fs rest : List ℕ) (s : Scenario) → Sound-names names (length ps) (length fs)
     → minPredicates ≤ length ps → length ps ≤ maxDeclared → length fs ≤ maxDeclared
     → Each (λ arity. arity ≤ maxArity) ps → Each (λ arity. arity ≤ maxArity) fs
-    → Reads (declaredTable names ps fs 0 []) rest s
-    → Reads nothing (declarations pred names 0 ps ++ (declarations func names (length ps) fs ++ rest)) s
+    → ReadsOn (declaredSoFar names ps fs 0 []) rest s
+    → ReadsOn nothing (declarations pred names 0 ps ++ (declarations func names (length ps) fs ++ rest)) s
 reads-declared names ps fs rest s sound some most functions-most small functions-small r =
-    reads-declarations names (length ps) (length fs) sound pred (predicatesTable names) 0 (length ps) (name-printed pred refl .bytes) (omega arith)
+    reads-declarations names (length ps) (length fs) sound pred (predicatesSoFar names) 0 (length ps) (name-printed pred refl .bytes) (omega arith)
     (λ i arity ws at l h small. pred-read names (length ps) (length fs) sound i arity ws at h most small)
     0 ps [] (declarations func names (length ps) fs ++ rest) s (omega arith) (zero-add (length ps)) small
     (rw start
-    (reads-declarations names (length ps) (length fs) sound func (functionsTable names (length ps)) (length ps) (length ps + length fs)
+    (reads-declarations names (length ps) (length fs) sound func (functionsSoFar names (length ps)) (length ps) (length ps + length fs)
     (name-printed func refl .bytes) (omega arith)
     (λ i arity ws at l h small. func-read names (length ps) (length fs) sound i arity ws at (omega arith) l h functions-most small)
     (length ps) fs ps rest s (omega arith) refl functions-small
     (rw end r)))
   where
-    start : predicatesTable names (length ps) ps ≡ functionsTable names (length ps) (length ps) ps
+    start : predicatesSoFar names (length ps) ps ≡ functionsSoFar names (length ps) (length ps) ps
     start = let none-yet : length ps - length ps ≡ 0 = omega arith in rw none-yet
 
-    end : functionsTable names (length ps) (length ps + length fs) (ps ++ fs) ≡ declaredTable names ps fs 0 []
+    end : functionsSoFar names (length ps) (length ps + length fs) (ps ++ fs) ≡ declaredSoFar names ps fs 0 []
     end =
         let all : length ps + length fs - length ps ≡ length fs = omega arith in
         let whole : firstNames names (length ps + length fs) ≡ names = take-all ((length ps + length fs) * nameBytes) names (omega (arith, sound .sized)) in

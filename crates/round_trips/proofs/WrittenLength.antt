@@ -6,12 +6,11 @@ use mathlib.Core.List.{List, [], _∷_, _++_, append-assoc}
 use lib.ListN.{length, length-append}
 use Rattle.terms.specs.Term.{Term}
 use Rattle.terms.specs.Cells.{enc, Atom}
-use Rattle.program.specs.Limits.{maxArity}
+use Rattle.program.specs.Limits.{maxArity, maxBytes}
 use Rattle.program.specs.Program.{Clause, Program}
 use Rattle.program.specs.Within.{Each, none, more, after, modesOf, encodeAtoms, encodeClauses, encode, WithinClause, WithinLimits}
 use Rattle.text.specs.Decimal.{decimal}
 use Rattle.text_lines.specs.Keyword.{pred, func, clause, query}
-use Rattle.reader.specs.Read.{maxBytes}
 use Rattle.written_lines.specs.Tokens.{symbolToken, atomTokens, atomsTokens, behindTabs, line}
 use Rattle.written_lines.specs.Lines.{declarations, clauseLines}
 use Rattle.writer.specs.Write.{textOf}

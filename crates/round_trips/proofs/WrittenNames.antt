@@ -13,8 +13,8 @@ use Rattle.program.specs.Reply.{tooSoon, follows, badName}
 use Rattle.text.specs.Token.{isName}
 use Rattle.text.specs.Name.{nameBytes, padded, entry, same, seek}
 use Rattle.text.proofs.Names.{same-equal, same-refl}
-use Rattle.cells.specs.Table.{right}
-use Rattle.cells.proofs.Kepts.{seek-alike}
+use Rattle.cells.specs.TextSoFar.{right}
+use Rattle.cells.proofs.HeldSymbols.{seek-alike}
 use Rattle.declarations.proofs.Symbols.{entry-front}
 use Rattle.written_lines.specs.Tokens.{nameIn}
 use Rattle.writer.specs.Names.{isEntry, firstOf, isSound, eachName, namesOf}

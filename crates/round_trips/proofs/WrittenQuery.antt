@@ -13,15 +13,15 @@ use Rattle.terms.specs.Cells.{enc, Atom}
 use Rattle.program.specs.Within.{Each, none, more, after, Numbered, modesOf}
 use Rattle.program.proofs.Modes.{modes-each, modes-length}
 use Rattle.text_lines.specs.Keyword.{query}
-use Rattle.cells.specs.Table.{right, last, Scenario}
+use Rattle.cells.specs.TextSoFar.{right, last, Scenario}
 use Rattle.text_lines.specs.Lines.{fieldsOf}
 use Rattle.written_lines.specs.Tokens.{atomTokens, line}
 use Rattle.round_trips.proofs.Printed.{name-printed}
 use Rattle.round_trips.proofs.ReadNames.{Sound-names}
-use Rattle.round_trips.proofs.WrittenCells.{Mode, modesUpTo, declaredTable, words-behind, rowAt}
+use Rattle.round_trips.proofs.WrittenCells.{Mode, modesUpTo, declaredSoFar, words-behind, rowAt}
 use Rattle.round_trips.proofs.WrittenAtoms.{TakesTo, take-atom, take-end}
 use Rattle.round_trips.proofs.WrittenTokens.{atom-printed}
-use Rattle.round_trips.proofs.WrittenLines.{Reads, line-last}
+use Rattle.round_trips.proofs.WrittenLines.{ReadsOn, line-last}
 
 -- a mode is any or ground
 each-mode : (modes : List ℕ) → Each (λ m. m ≤ 1) modes → (v : ℕ) → Mode true (getD modes v 0)
@@ -49,11 +49,11 @@ module _ (names ps fs : List ℕ) (sound : Sound-names names (length ps) (length
   scenario =
       record { words = length ps ∷ length fs ∷ n ∷ ps ++ (fs ++ (ws ++ (enc t ++ after 0 t ∷ modes))); names = names }
 
-  query-read : (at : ℕ) → fieldsOf (declaredTable names ps fs n ws) at (query ∷ atomTokens names (length ps) modes (enc t)) ≡ right (last scenario)
+  query-read : (at : ℕ) → fieldsOf (declaredSoFar names ps fs n ws) at (query ∷ atomTokens names (length ps) modes (enc t)) ≡ right (last scenario)
   query-read at =
       let m : (v : ℕ) → Mode true (getD modes v 0) = each-mode modes (modes-each (after 0 t) ground) in
       let r = rowAt modes 1 0 (length (enc t)) (after 0 t) (enc t) in
-      let taken : TakesTo (declaredTable names ps fs n ws) true (rowAt modes 0 0 0 0 []) (atomTokens names (length ps) modes (enc t)) r
+      let taken : TakesTo (declaredSoFar names ps fs n ws) true (rowAt modes 0 0 0 0 []) (atomTokens names (length ps) modes (enc t)) r
       = rw (append-nil (atomTokens names (length ps) modes (enc t)))
       at (take-atom names ps fs n ws true modes sound m t 0 0 0 [] [] r a numbered (omega arith) refl
       (take-end names ps fs n ws true modes sound m 1 (length (enc t)) (after 0 t) (enc t) (omega arith))) in
@@ -65,7 +65,7 @@ module _ (names ps fs : List ℕ) (sound : Sound-names names (length ps) (length
         words-behind ps fs ws (enc t ++ after 0 t ∷ modes),
       )
 
-  pub reads-query : Reads (declaredTable names ps fs n ws) (line query (atomTokens names (length ps) modes (enc t))) scenario
+  pub reads-query : ReadsOn (declaredSoFar names ps fs n ws) (line query (atomTokens names (length ps) modes (enc t))) scenario
   reads-query =
-      line-last (declaredTable names ps fs n ws) query (atomTokens names (length ps) modes (enc t)) (name-printed query refl .bytes)
+      line-last (declaredSoFar names ps fs n ws) query (atomTokens names (length ps) modes (enc t)) (name-printed query refl .bytes)
       (atom-printed names ps fs sound modes t a) scenario query-read

@@ -1,4 +1,4 @@
--- Laws of names: comparing two, their marks, and one step of the search.
+-- Laws of names: comparing two, their hashes, and one step of the search.
 use Prim.Native.Nat.{ℕ, zero, suc, _+_, _-_, _*_, _%_, _≤_, _<_}
 use mathlib.Core.Path.{_≡_, refl, sym, ap, ap₂, _∙_}
 use mathlib.Core.Bool.{Bool, true, false, cond, _&&_}
@@ -8,13 +8,13 @@ use lib.ListN.{length, getD, take, drop, drop-of-length-le, length-take, length-
 use lib.Seq.{drop-cons, getD-take, getD-drop}
 use lib.Dec.{eqb}
 use borrow.Author.Tests.{eq-eqb, ne-eqb, eqb-true}
-use Rattle.text.specs.Name.{nameBytes, entry, same, seek, markFrom, markOf, markBelow}
+use Rattle.text.specs.Name.{nameBytes, entry, same, seek, hashFrom, hashOf, hashBelow}
 
-pub markFrom-step : (h : ℕ) (s : List ℕ) (i : ℕ) → i < length s → markFrom h (drop i s) ≡ markFrom ((h * 31 + getD s i 0) % markBelow) (drop (suc i) s)
-markFrom-step h s i k = rw (drop-cons s i 0 k)
+pub hashFrom-step : (h : ℕ) (s : List ℕ) (i : ℕ) → i < length s → hashFrom h (drop i s) ≡ hashFrom ((h * 31 + getD s i 0) % hashBelow) (drop (suc i) s)
+hashFrom-step h s i k = rw (drop-cons s i 0 k)
 
-pub markFrom-ends : (h : ℕ) (s : List ℕ) (i : ℕ) → length s ≤ i → markFrom h (drop i s) ≡ h
-markFrom-ends h s i k = rw (drop-of-length-le s k)
+pub hashFrom-ends : (h : ℕ) (s : List ℕ) (i : ℕ) → length s ≤ i → hashFrom h (drop i s) ≡ h
+hashFrom-ends h s i k = rw (drop-of-length-le s k)
 
 -- what is the same is equal
 pub same-equal : (xs ys : List ℕ) → same xs ys ≡ true → xs ≡ ys
@@ -39,12 +39,12 @@ lengths-apart xs ys n = go (same xs ys) refl
     go true e = absurd (n (ap length (same-equal xs ys e)))
     go false e = refl
 
--- names whose marks differ are not the same
-pub marks-apart : (xs ys : List ℕ) → (markOf xs ≡ markOf ys → ⊥) → same xs ys ≡ false
-marks-apart xs ys n = go (same xs ys) refl
+-- names whose hashes differ are not the same
+pub hashes-apart : (xs ys : List ℕ) → (hashOf xs ≡ hashOf ys → ⊥) → same xs ys ≡ false
+hashes-apart xs ys n = go (same xs ys) refl
   where
     go : (t : Bool) → same xs ys ≡ t → t ≡ false
-    go true e = absurd (n (ap markOf (same-equal xs ys e)))
+    go true e = absurd (n (ap hashOf (same-equal xs ys e)))
     go false e = refl
 
 -- two lists from the same place on

@@ -35,16 +35,16 @@ seek names key i zero = i
 seek names key i (suc n) = cond (same (entry names i) key) i (seek names key (suc i) n)
 
 -- A number made of a name's bytes: names whose numbers differ are not the same, which spares comparing them.
-abbrev pub markBelow : ℕ
-markBelow = 65536
+abbrev pub hashBelow : ℕ
+hashBelow = 65536
 
-abbrev pub markFrom : ℕ → List ℕ → ℕ
-markFrom h [] = h
-markFrom h (b ∷ bs) = markFrom ((h * 31 + b) % markBelow) bs
+abbrev pub hashFrom : ℕ → List ℕ → ℕ
+hashFrom h [] = h
+hashFrom h (b ∷ bs) = hashFrom ((h * 31 + b) % hashBelow) bs
 
-abbrev pub markOf : List ℕ → ℕ
-markOf key = markFrom 0 key
+abbrev pub hashOf : List ℕ → ℕ
+hashOf key = hashFrom 0 key
 
--- the marks of the names from number i on, and below number n
-abbrev pub Marked : List ℕ → List ℕ → ℕ → ℕ → Type 0
-Marked names marks i n = (k : ℕ) → i ≤ k → k < n → getD marks k 0 ≡ markOf (entry names k)
+-- the hashes of the names from number i on, and below number n
+abbrev pub Hashed : List ℕ → List ℕ → ℕ → ℕ → Type 0
+Hashed names hashes i n = (k : ℕ) → i ≤ k → k < n → getD hashes k 0 ≡ hashOf (entry names k)

@@ -2,7 +2,7 @@
 ghost use mathlib.Core.Path.{_≡_};
 ghost use Prim.Native.Nat.{_+_, _-_, _*_, _≤_, _<_};
 ghost use lib.ListN.{length, take, drop};
-ghost use Rattle.text.specs.Name.{nameBytes, maxNames, padded, entry, same, seek, markOf, Marked};
+ghost use Rattle.text.specs.Name.{nameBytes, maxNames, padded, entry, same, seek, hashOf, Hashed};
 
 pub const NAME_BYTES: usize = 16;
 
@@ -43,8 +43,8 @@ fn wide(b: u8) -> u32
     b as u32
 }
 
-pub fn mark_of(key: &[u8]) -> u32
-    ensures { λ r. ⌜ r ≡ markOf (now (key .entry)) ⌝ }
+pub fn hash_of(key: &[u8]) -> u32
+    ensures { λ r. ⌜ r ≡ hashOf (now (key .entry)) ⌝ }
 {
     let mut h = 0;
     let mut i = 0;
@@ -70,27 +70,27 @@ fn stands_at(names: &[u8], from: usize, key: &[u8]) -> bool
     true
 }
 
-// Whether name number i, with its mark, is the key with its mark.
-fn is_at(names: &[u8], its: u32, i: usize, key: &[u8], mark: u32) -> bool
+// Whether name number i, with its hash, is the key with its hash.
+fn is_at(names: &[u8], its: u32, i: usize, key: &[u8], hash: u32) -> bool
     requires { ⌜ (length (now key) ≡ nameBytes) × (i * nameBytes + nameBytes ≤ length (now names)) × (i < maxNames) ⌝ }
-    ensures { λ r. ⌜ (its ≡ markOf (entry (now (names .entry)) i) → mark ≡ markOf (now (key .entry)) → r ≡ same (entry (now (names .entry)) i) (now (key .entry))) ⌝ }
+    ensures { λ r. ⌜ (its ≡ hashOf (entry (now (names .entry)) i) → hash ≡ hashOf (now (key .entry)) → r ≡ same (entry (now (names .entry)) i) (now (key .entry))) ⌝ }
 {
-    if its != mark {
+    if its != hash {
         return false;
     }
     stands_at(names, i * NAME_BYTES, key)
 }
 
 // The first name from number `from` on, and below number `to`, that is the key, or `to`.
-pub fn find_name(names: &[u8], marks: &[u32], from: usize, to: usize, key: &[u8]) -> usize
-    requires { ⌜ (length (now key) ≡ nameBytes) × (to * nameBytes ≤ length (now names)) × (to ≤ length (now marks)) × (to ≤ maxNames) × (from ≤ to) ⌝ }
-    ensures { λ r. ⌜ (Marked (now (names .entry)) (now (marks .entry)) from to → r ≡ seek (now (names .entry)) (now (key .entry)) from (to - from)) ⌝ }
+pub fn find_name(names: &[u8], hashes: &[u32], from: usize, to: usize, key: &[u8]) -> usize
+    requires { ⌜ (length (now key) ≡ nameBytes) × (to * nameBytes ≤ length (now names)) × (to ≤ length (now hashes)) × (to ≤ maxNames) × (from ≤ to) ⌝ }
+    ensures { λ r. ⌜ (Hashed (now (names .entry)) (now (hashes .entry)) from to → r ≡ seek (now (names .entry)) (now (key .entry)) from (to - from)) ⌝ }
     ensures within { λ r. ⌜ (from ≤ r) × (r ≤ to) ⌝ }
 {
-    let mark = mark_of(key);
+    let hash = hash_of(key);
     let mut i = from;
     while i < to {
-        if is_at(names, marks[i], i, key, mark) {
+        if is_at(names, hashes[i], i, key, hash) {
             return i;
         }
         i += 1;

@@ -12,10 +12,10 @@ use Rattle.cells.specs.declared.state.Counts.{Counts}
 use Rattle.cells.specs.declared.state.Progress.{Progress}
 use Rattle.cells.specs.declared.cells.Cells.the-variants.{Fault as CellsFault, Done}
 use Rattle.declarations.specs.declared.lined.Lined.the-variants.{Fault as LinedFault, More, Last}
-use Rattle.cells.specs.Table.{Read, wrong, right, next}
+use Rattle.cells.specs.TextSoFar.{Read, wrong, right, next}
 use Rattle.cells.specs.Cells.{Row}
 use Rattle.text_lines.specs.Lines.{withClause, withGoal}
-use Rattle.cells.specs.Room.{Kept, Stands, CellsAs, tableOf, rowOf}
+use Rattle.cells.specs.Room.{SymbolsHeld, Stands, CellsAs, textSoFar, rowOf}
 use Rattle.declarations.specs.Held.{Holds, LinedAs, Limited, moreOf}
 use Rattle.text_lines.specs.Goal.{GoalPut, lastOf}
 
@@ -47,16 +47,16 @@ module _ (front modes words : List ℕ) where
       let same : p ≡ e .0 = cc in
       record { ms = r .modes; out = r .out; is = ap right (rw same (e .2)); stands = rw same (e .3) }
 
-module _ (ns ws : List ℕ) (c : Counts) (names marks arities words : List ℕ) (holds : Holds ns ws c names marks arities words) where
+module _ (ns ws : List ℕ) (c : Counts) (names hashes arities words : List ℕ) (holds : Holds ns ws c names hashes arities words) where
   -- the words behind the arities change no arity
-  kept-behind : (c′ : Counts) (xs : List ℕ) → c′ .predicates ≡ c .predicates → c′ .functions ≡ c .functions → Kept ns (ws ++ xs) c′ names marks arities
+  kept-behind : (c′ : Counts) (xs : List ℕ) → c′ .predicates ≡ c .predicates → c′ .functions ≡ c .functions → SymbolsHeld ns (ws ++ xs) c′ names hashes arities
   kept-behind c′ xs e f =
       record {
         named = holds .kept .named;
         sized = rw (e, f) (holds .kept .sized);
         arity = λ n h. let k : n < c .predicates + c .functions = omega arith in
             holds .kept .arity n k ∙ sym (List·getD-append ws xs 0 n (omega (arith, holds .enough)));
-        marked = λ k l h. holds .kept .marked k l (omega arith);
+        hashed = λ k l h. holds .kept .hashed k l (omega arith);
       }
 
   -- room for the body length
@@ -77,8 +77,8 @@ module _ (ns ws : List ℕ) (c : Counts) (names marks arities words : List ℕ) 
         rw (n, e) (set-within maxWords (0 ∷ 0 ∷ 0 ∷ ws) 0 (through .out) m)
 
     pub lined-clause : (m : ℕ) (words″ : List ℕ) → m ≡ p .atoms - 1 → words″ ≡ set words′ (c .words) m
-        → LinedAs names marks arities words″ (More (record { predicates = c .predicates; functions = c .functions; clauses = c .clauses + 1; words = p .words }))
-        (moreOf (next o (λ r. right (withClause (tableOf c ns ws) r))))
+        → LinedAs names hashes arities words″ (More (record { predicates = c .predicates; functions = c .functions; clauses = c .clauses + 1; words = p .words }))
+        (moreOf (next o (λ r. right (withClause (textSoFar c ns ws) r))))
     lined-clause m words″ e f =
         let c′ : Counts = record { predicates = c .predicates; functions = c .functions; clauses = c .clauses + 1; words = p .words } in
         let size = length-append ws (m ∷ through .out) in
@@ -123,9 +123,9 @@ module _ (c : Counts) {p : Progress} {ws ms out modes words : List ℕ} (st : St
   goal-count =
       omega (arith, st .place, st .met, length-append (ws ++ out) (p .variables ∷ ms))
 
-pub lined-goal : (ns ws : List ℕ) (c : Counts) (names marks arities words : List ℕ) → Limited c → Kept ns ws c names marks arities
+pub lined-goal : (ns ws : List ℕ) (c : Counts) (names hashes arities words : List ℕ) → Limited c → SymbolsHeld ns ws c names hashes arities
     → (o : Read Row) (p : Progress) (ms out : List ℕ) → o ≡ right (rowOf p ms out) → (count size : ℕ) → GoalPut c p ws ms out words count
     → size ≡ (c .predicates + c .functions) * nameBytes
-    → LinedAs names marks arities words (Last count size) (lastOf (next o (λ r. right (withGoal (tableOf c ns ws) r))))
-lined-goal ns ws c names marks arities words few kept o p ms out e count size g f =
+    → LinedAs names hashes arities words (Last count size) (lastOf (next o (λ r. right (withGoal (textSoFar c ns ws) r))))
+lined-goal ns ws c names hashes arities words few kept o p ms out e count size g f =
     rw (e, g .counted, f ∙ sym (kept .sized)) (refl, g .all, kept .named, omega (arith, kept .sized, few))

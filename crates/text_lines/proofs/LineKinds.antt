@@ -16,7 +16,7 @@ use Rattle.text_lines.specs.declared.keyword.Kind.the-variants.{Pred, Fu
 use Rattle.declarations.specs.declared.lined.Lined.{Lined}
 use Rattle.declarations.specs.declared.lined.Lined.the-variants.{Fault, More, Last}
 use Rattle.text_lines.specs.Keyword.{pred, func, clause, query, kindOf}
-use Rattle.cells.specs.Table.{Table, Read, wrong}
+use Rattle.cells.specs.TextSoFar.{TextSoFar, Read, wrong}
 use Rattle.declarations.specs.Declarations.{declaring, predLine, funcLine}
 use Rattle.text_lines.specs.Lines.{clauseLine, queryLine, lineOf, fieldsOf}
 use Rattle.declarations.specs.Held.{moreOf, Goes}
@@ -79,7 +79,7 @@ module _ (line : List ℕ) (e : ℕ) (ends : e ≡ 0 + length (upTo tab (drop 0 
   pub query-length : kindOf keyword ≡ Query → e ≡ length query
   query-length f = sym first-length ∙ ap length (is-kind f)
 
-  module _ (t : Table) (base : ℕ) where
+  module _ (t : TextSoFar) (base : ℕ) where
     by-kind : {k : Kind} → kindOf keyword ≡ k → fieldsOf t base (parts tab line) ≡ lineOf t base k (behind tab line e)
     by-kind f = ap (fieldsOf t base) fields-first ∙ ap (λ (k : Kind). lineOf t base k (behind tab line e)) f
 

@@ -5,7 +5,7 @@ use mathlib.Core.List.{List, _∷_, _++_}
 use lib.ListN.{length}
 use Rattle.program.specs.Limits.{maxWords}
 use Rattle.text.specs.Room.{inRoom}
-use Rattle.cells.specs.Table.{Read, right, next, Scenario, Line, last}
+use Rattle.cells.specs.TextSoFar.{Read, right, next, Scenario, Line, last}
 use Rattle.cells.specs.declared.state.Counts.{Counts}
 use Rattle.cells.specs.declared.state.Progress.{Progress}
 

@@ -10,11 +10,11 @@ use Rattle.text.specs.Line.{parts, tab}
 use Rattle.text_lines.specs.declared.keyword.Kind.{Kind}
 use Rattle.text_lines.specs.declared.keyword.Kind.the-variants.{Pred, Func, Clause, Query, Other}
 use Rattle.text_lines.specs.Keyword.{clause, query, kindOf}
-use Rattle.cells.specs.Table.{Read, wrong, right, next, Table, Scenario, Line, more, last}
+use Rattle.cells.specs.TextSoFar.{Read, wrong, right, next, TextSoFar, Scenario, Line, more, last}
 use Rattle.declarations.specs.Declarations.{predLine, funcLine}
 use Rattle.cells.specs.Cells.{Row, noCells, cellsOf}
 
-abbrev pub withClause : Table → Row → Table
+abbrev pub withClause : TextSoFar → Row → TextSoFar
 withClause t r =
     record {
       predicates = t .predicates;
@@ -25,13 +25,13 @@ withClause t r =
     }
 
 -- "C clauses: a body length m (0 to 16), the head atom, m body atoms"
-abbrev pub clauseLine : Table → ℕ → List (List ℕ) → Read Table
+abbrev pub clauseLine : TextSoFar → ℕ → List (List ℕ) → Read TextSoFar
 clauseLine t at ss =
     cond (ltb 0 (t .predicates) && ltb (t .clauses) maxDeclared)
     (next (cellsOf t false noCells (at + length clause) ss) (λ r. right (withClause t r)))
     (wrong outOfRange at)
 
-abbrev pub withGoal : Table → Row → Scenario
+abbrev pub withGoal : TextSoFar → Row → Scenario
 withGoal t r =
     record {
       words = t .predicates ∷ t .functions ∷ t .clauses ∷ t .words ++ r .out ++ r .variables ∷ r .modes;
@@ -39,14 +39,14 @@ withGoal t r =
     }
 
 -- "the top goal: one atom, its variable count k, then k modes (0 any, 1 ground)"
-abbrev pub queryLine : Table → ℕ → List (List ℕ) → Read Scenario
+abbrev pub queryLine : TextSoFar → ℕ → List (List ℕ) → Read Scenario
 queryLine t at ss =
     cond (ltb 0 (t .predicates))
     (next (cellsOf t true noCells (at + length query) ss) (λ r. right (withGoal t r)))
     (wrong outOfRange at)
 
 -- "A line has a wrong form if its first field is no keyword, if its kind stands after a later kind, or if a declaration has not exactly three fields"
-abbrev pub lineOf : Table → ℕ → Kind → List (List ℕ) → Read Line
+abbrev pub lineOf : TextSoFar → ℕ → Kind → List (List ℕ) → Read Line
 lineOf t at Pred ss = next (predLine t at ss) (λ t′. right (more t′))
 lineOf t at Func ss = next (funcLine t at ss) (λ t′. right (more t′))
 lineOf t at Clause ss = next (clauseLine t at ss) (λ t′. right (more t′))
@@ -54,7 +54,7 @@ lineOf t at Query ss = next (queryLine t at ss) (λ s. right (last s))
 lineOf t at Other ss = wrong illFormed at
 
 -- a line's first field, and the others
-abbrev pub fieldsOf : Table → ℕ → List (List ℕ) → Read Line
+abbrev pub fieldsOf : TextSoFar → ℕ → List (List ℕ) → Read Line
 fieldsOf t at [] = wrong illFormed at
 fieldsOf t at (k ∷ ss) = lineOf t at (kindOf k) ss
 
@@ -66,7 +66,7 @@ ending s at (b ∷ bs) ls = wrong follows at
 
 -- The text from a line on, which begins at `at`, and the lines behind it. What stands behind the last LF is no line:
 -- "A last line without LF gives 1, once the lines before are sound; past the query's LF it is 7."
-abbrev pub linesOf : Table → ℕ → List ℕ → List (List ℕ) → Read Scenario
+abbrev pub linesOf : TextSoFar → ℕ → List ℕ → List (List ℕ) → Read Scenario
 linesOf t at l [] = wrong tooSoon (at + length l)
 linesOf t at l (m ∷ ls) =
     elim (fieldsOf t at (parts tab l)) [
@@ -75,6 +75,6 @@ linesOf t at l (m ∷ ls) =
       | right (last s) ↦ ending s (at + length l + 1) m ls
     ]
 
-abbrev pub allLines : Table → ℕ → List (List ℕ) → Read Scenario
+abbrev pub allLines : TextSoFar → ℕ → List (List ℕ) → Read Scenario
 allLines t at [] = wrong tooSoon at
 allLines t at (l ∷ ls) = linesOf t at l ls

@@ -18,7 +18,7 @@ ghost use Rattle.text.specs.Line.{behind, tab};
 ghost use Rattle.text.specs.Room.{inRoom};
 ghost use Rattle.text_lines.specs.Keyword.{clause, query};
 ghost use Rattle.text_lines.specs.Lines.{clauseLine, queryLine};
-ghost use Rattle.cells.specs.Room.{Roomy, Stands, tableOf};
+ghost use Rattle.cells.specs.Room.{Roomy, Stands, textSoFar};
 ghost use Rattle.declarations.specs.Held.{Holds, LinedAs, moreOf, Limited, Goes};
 ghost use Rattle.text_lines.specs.Goal.{lastOf, GoalPut};
 
@@ -38,12 +38,12 @@ pub fn clause_line(
     base: usize,
     c: Counts,
     names: &[u8],
-    marks: &[u32],
+    hashes: &[u32],
     arities: &[u16],
     words: &mut [u16],
 ) -> Lined
-    requires { ⌜ Roomy c (now names) (now marks) (now arities) × Limited c × (from ≤ length (now line)) × (base + length (now line) < 2 ^ 31) × (c .words < 2 ^ 30) ⌝ }
-    ensures { λ r. ⌜ ((ns ws : List ℕ) → Holds ns ws c (now (names .entry)) (now (marks .entry)) (now (arities .entry)) (now (words .entry)) → from ≡ length clause → LinedAs (now (names .entry)) (now (marks .entry)) (now (arities .entry)) (now (words .exit)) r (moreOf (clauseLine (tableOf c ns ws) base (behind tab (now (line .entry)) from)))) ⌝ }
+    requires { ⌜ Roomy c (now names) (now hashes) (now arities) × Limited c × (from ≤ length (now line)) × (base + length (now line) < 2 ^ 31) × (c .words < 2 ^ 30) ⌝ }
+    ensures { λ r. ⌜ ((ns ws : List ℕ) → Holds ns ws c (now (names .entry)) (now (hashes .entry)) (now (arities .entry)) (now (words .entry)) → from ≡ length clause → LinedAs (now (names .entry)) (now (hashes .entry)) (now (arities .entry)) (now (words .exit)) r (moreOf (clauseLine (textSoFar c ns ws) base (behind tab (now (line .entry)) from)))) ⌝ }
     ensures goes { λ r. ⌜ Goes (c .words + 1 + length (now (line .entry))) r ⌝ }
 {
     if !is_open(c.predicates, c.clauses) {
@@ -62,7 +62,7 @@ pub fn clause_line(
         false,
         c,
         names,
-        marks,
+        hashes,
         arities,
         words,
         &mut modes,
@@ -126,12 +126,12 @@ pub fn query_line(
     base: usize,
     c: Counts,
     names: &[u8],
-    marks: &[u32],
+    hashes: &[u32],
     arities: &[u16],
     words: &mut [u16],
 ) -> Lined
-    requires { ⌜ Roomy c (now names) (now marks) (now arities) × Limited c × (from ≤ length (now line)) × (base + length (now line) < 2 ^ 31) × (c .words < 2 ^ 30) ⌝ }
-    ensures { λ r. ⌜ ((ns ws : List ℕ) → Holds ns ws c (now (names .entry)) (now (marks .entry)) (now (arities .entry)) (now (words .entry)) → from ≡ length query → LinedAs (now (names .entry)) (now (marks .entry)) (now (arities .entry)) (now (words .exit)) r (lastOf (queryLine (tableOf c ns ws) base (behind tab (now (line .entry)) from)))) ⌝ }
+    requires { ⌜ Roomy c (now names) (now hashes) (now arities) × Limited c × (from ≤ length (now line)) × (base + length (now line) < 2 ^ 31) × (c .words < 2 ^ 30) ⌝ }
+    ensures { λ r. ⌜ ((ns ws : List ℕ) → Holds ns ws c (now (names .entry)) (now (hashes .entry)) (now (arities .entry)) (now (words .entry)) → from ≡ length query → LinedAs (now (names .entry)) (now (hashes .entry)) (now (arities .entry)) (now (words .exit)) r (lastOf (queryLine (textSoFar c ns ws) base (behind tab (now (line .entry)) from)))) ⌝ }
     ensures goes { λ r. ⌜ Goes 0 r ⌝ }
 {
     if c.predicates == 0 {
@@ -148,7 +148,7 @@ pub fn query_line(
         true,
         c,
         names,
-        marks,
+        hashes,
         arities,
         words,
         &mut modes,

@@ -18,7 +18,7 @@ use Rattle.text.specs.Room.{inRoom}
 use Rattle.text.specs.Put.{Put}
 use Rattle.text.proofs.Puts.{put-length, put-count, put-front, put-over}
 use Rattle.directory.specs.Said.{Accepted}
-use Rattle.cells.specs.Table.{Read, wrong, right, next}
+use Rattle.cells.specs.TextSoFar.{Read, wrong, right, next}
 use Rattle.writer.specs.Names.{isSound, eachName, namesOf, namesReply}
 use Rattle.writer.specs.Write.{textOf, writeOf, roomFor, answerOf, replyOf, textIn}
 use Rattle.writer.specs.Roomed.{roomed}

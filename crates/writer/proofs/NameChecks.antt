@@ -11,9 +11,9 @@ use lib.Dec.{ltb}
 use borrow.Author.Tests.{ltb-false}
 use Rattle.program.specs.Reply.{badName}
 use Rattle.text.specs.Line.{upTo}
-use Rattle.text.specs.Name.{nameBytes, entry, markOf, Marked}
+use Rattle.text.specs.Name.{nameBytes, entry, hashOf, Hashed}
 use Rattle.text.proofs.Cuts.{upTo-take}
-use Rattle.cells.specs.Table.{wrong, right}
+use Rattle.cells.specs.TextSoFar.{wrong, right}
 use Rattle.written_lines.specs.Tokens.{nameIn}
 use Rattle.writer.specs.Names.{firstOf, isSound, eachName}
 
@@ -33,13 +33,13 @@ first-within predicates i = by (ltb i predicates) refl
     by true e = omega arith
     by false e = ltb-false _ _ e
 
--- one mark more
-pub marked-more : (names marks : List ℕ) (i m : ℕ) → i < length marks → m ≡ markOf (entry names i) → Marked names marks 0 i → Marked names (set marks i m) 0 (i + 1)
-marked-more names marks i m h e marked k l less = by (decLt k i)
+-- one hash more
+pub hashed-more : (names hashes : List ℕ) (i m : ℕ) → i < length hashes → m ≡ hashOf (entry names i) → Hashed names hashes 0 i → Hashed names (set hashes i m) 0 (i + 1)
+hashed-more names hashes i m h e hashed k l less = by (decLt k i)
   where
-    by : Dec (k < i) → getD (set marks i m) k 0 ≡ markOf (entry names k)
-    by (yes b) = getD-set-other marks i k m 0 (λ z. omega arith) ∙ marked k l b
-    by (no b) = let z : i ≡ k = omega arith in rw (← z) (getD-set-same marks i m 0 h ∙ e)
+    by : Dec (k < i) → getD (set hashes i m) k 0 ≡ hashOf (entry names k)
+    by (yes b) = getD-set-other hashes i k m 0 (λ z. omega arith) ∙ hashed k l b
+    by (no b) = let z : i ≡ k = omega arith in rw (← z) (getD-set-same hashes i m 0 h ∙ e)
 
 -- one step of the check
 module _ (names : List ℕ) (predicates i symbols : ℕ) where

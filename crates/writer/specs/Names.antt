@@ -8,7 +8,7 @@ use Rattle.program.specs.Reply.{tooSoon, follows, badName, refused, done}
 use Rattle.program.specs.declared.reply.Reply.{Reply}
 use Rattle.text.specs.Token.{isName}
 use Rattle.text.specs.Name.{nameBytes, padded, entry, same, seek}
-use Rattle.cells.specs.Table.{Read, wrong, right}
+use Rattle.cells.specs.TextSoFar.{Read, wrong, right}
 use Rattle.written_lines.specs.Tokens.{nameIn}
 
 -- a name, and nothing but zeros behind it

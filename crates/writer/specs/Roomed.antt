@@ -5,7 +5,7 @@ use mathlib.Core.List.{List}
 use lib.ListN.{take}
 use lib.Dec.{ltb}
 use Rattle.program.specs.Reply.{noRoom}
-use Rattle.cells.specs.Table.{Read, wrong, right}
+use Rattle.cells.specs.TextSoFar.{Read, wrong, right}
 
 -- so many bytes of the room, where the room has so many
 abbrev pub roomed : ℕ → ℕ → List ℕ → Read (List ℕ)

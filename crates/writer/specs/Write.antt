@@ -1,5 +1,6 @@
 -- `writeOf`: the faults of a program and its names, or its text; and what `write` hands back of it.
 use Prim.Native.Nat.{ℕ, _+_}
+use mathlib.Core.Path.{_≡_}
 use mathlib.Core.Bool.{cond}
 use mathlib.Core.List.{List, [], _++_}
 use lib.ListN.{length}
@@ -12,7 +13,7 @@ use Rattle.program.specs.Reply.{noRoom, refused, done}
 use Rattle.program.specs.declared.reply.Reply.{Reply}
 use Rattle.text.specs.Room.{inRoom}
 use Rattle.text_lines.specs.Keyword.{pred, func, query}
-use Rattle.cells.specs.Table.{Read, wrong, right, next}
+use Rattle.cells.specs.TextSoFar.{Read, wrong, right, next}
 use Rattle.written_lines.specs.Tokens.{atomTokens, line}
 use Rattle.written_lines.specs.Lines.{declarations, clauseLines}
 use Rattle.writer.specs.Names.{namesOf}
@@ -50,3 +51,7 @@ replyOf (right text) = done (length text)
 abbrev pub textIn : ℕ → Read (List ℕ) → List ℕ
 textIn room (wrong number place) = inRoom room []
 textIn room (right text) = inRoom room text
+
+-- the promise of `write`: of words, names and the room, the reply and the text that is left in it
+abbrev pub Writes : List ℕ → List ℕ → ℕ → Reply → List ℕ → Type 0
+Writes words names room reply left = (reply ≡ replyOf (answerOf words names room)) × (left ≡ textIn room (answerOf words names room))

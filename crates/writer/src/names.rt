@@ -7,14 +7,14 @@ use program::reply::TOO_SOON;
 use text::cut::find;
 use text::name::NAME_BYTES;
 use text::name::find_name;
-use text::name::mark_of;
+use text::name::hash_of;
 use text::name::pad;
 use text::name::same_bytes;
 use text::token::is_name;
 ghost use mathlib.Core.Path.{_≡_};
 ghost use Prim.Native.Nat.{_+_, _*_, _≤_};
 ghost use lib.ListN.{length};
-ghost use Rattle.text.specs.Name.{nameBytes, maxNames, entry, Marked};
+ghost use Rattle.text.specs.Name.{nameBytes, maxNames, entry, Hashed};
 ghost use Rattle.written_lines.specs.Walked.{NameAt};
 ghost use Rattle.writer.specs.Names.{isEntry, firstOf, isSound, eachName, namesOf, namesReply};
 
@@ -52,16 +52,16 @@ fn first_of(predicates: usize, i: usize) -> usize
 }
 
 // "a declared name is ill formed, or declared twice in its kind": whether name i is neither.
-fn is_sound(names: &[u8], marks: &[u32], predicates: usize, i: usize) -> bool
-    requires { ⌜ (NameAt (now names) i) × (length (now marks) ≡ maxNames) ⌝ }
-    ensures { λ r. ⌜ (Marked (now (names .entry)) (now (marks .entry)) 0 i → r ≡ isSound (now (names .entry)) predicates i) ⌝ }
+fn is_sound(names: &[u8], hashes: &[u32], predicates: usize, i: usize) -> bool
+    requires { ⌜ (NameAt (now names) i) × (length (now hashes) ≡ maxNames) ⌝ }
+    ensures { λ r. ⌜ (Hashed (now (names .entry)) (now (hashes .entry)) 0 i → r ≡ isSound (now (names .entry)) predicates i) ⌝ }
 {
     let key = name_at(names, i);
     if !is_entry(key) {
         return false;
     }
     let first = first_of(predicates, i);
-    find_name(names, marks, first, i, key) == i
+    find_name(names, hashes, first, i, key) == i
 }
 
 // "then 12 at the name's byte index"
@@ -69,17 +69,17 @@ fn each_name(names: &[u8], predicates: usize, symbols: usize) -> Reply
     requires { ⌜ (symbols ≤ maxNames) × (length (now names) ≡ symbols * nameBytes) ⌝ }
     ensures { λ r. ⌜ r ≡ namesReply (eachName (now (names .entry)) predicates 0 symbols) ⌝ }
 {
-    let mut marks = [0u32; 128];
+    let mut hashes = [0u32; 128];
     let mut i = 0;
     while i < symbols {
-        if !is_sound(names, &marks, predicates, i) {
+        if !is_sound(names, &hashes, predicates, i) {
             return Reply {
                 number: BAD_NAME,
                 place: i * NAME_BYTES,
                 count: 0,
             };
         }
-        marks[i] = mark_of(name_at(names, i));
+        hashes[i] = hash_of(name_at(names, i));
         i += 1;
     }
     Reply {

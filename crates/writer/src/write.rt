@@ -14,7 +14,7 @@ ghost use lib.ListN.{length};
 ghost use Rattle.directory.specs.Said.{said, Accepted};
 ghost use Rattle.text.specs.Put.{Put};
 ghost use Rattle.written_lines.specs.Walked.{Named};
-ghost use Rattle.writer.specs.Write.{textOf, answerOf, replyOf, textIn};
+ghost use Rattle.writer.specs.Write.{textOf, replyOf, textIn, Writes};
 ghost use Rattle.writer.specs.Roomed.{roomed};
 
 const FIRST_ARITY: usize = 3;
@@ -76,8 +76,7 @@ fn finish(text: &mut [u8], end: usize) -> Reply
 
 // From an encoded program with its names to its text: the reply of document 01, and every lent byte after.
 pub fn write(words: &[u16], names: &[u8], text: &mut [u8]) -> Reply
-    ensures reply { λ r. ⌜ r ≡ replyOf (answerOf (now (words .entry)) (now (names .entry)) (length (now (text .entry)))) ⌝ }
-    ensures of_text { λ r. ⌜ now (text .exit) ≡ textIn (length (now (text .entry))) (answerOf (now (words .entry)) (now (names .entry)) (length (now (text .entry)))) ⌝ }
+    ensures { λ r. ⌜ Writes (now (words .entry)) (now (names .entry)) (length (now (text .entry))) r (now (text .exit)) ⌝ }
 {
     let found = scan(words);
     if found.number != ACCEPTED {

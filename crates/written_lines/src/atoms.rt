@@ -2,7 +2,7 @@
 use crate::tokens::put_argument;
 use crate::tokens::put_symbol;
 use crate::walked::Walked;
-use program::limits::FIRST_VARIABLE;
+use terms::walk::FIRST_VARIABLE;
 use terms::walk::wide;
 ghost use mathlib.Core.Path.{_≡_};
 ghost use mathlib.Core.List.{map};

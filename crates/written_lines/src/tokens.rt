@@ -1,6 +1,6 @@
 // The tokens of a clause or query line, each behind a tab.
-use program::limits::FIRST_VARIABLE;
 use program::limits::GROUND_MODE;
+use terms::walk::FIRST_VARIABLE;
 use terms::walk::wide;
 use text::bytes::UPPER_G;
 use text::bytes::UPPER_V;

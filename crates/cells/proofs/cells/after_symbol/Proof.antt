@@ -1,4 +1,4 @@
--- `reader::cells::after_symbol` meets its contract. Assumes nothing.
+-- `cells::cells::after_symbol` meets its contract. Assumes nothing.
 use native.Mathlib.Omega.{arith}
 use Rattle.cells.proofs.Progresses.{afterSymbol-starts, afterSymbol-goes-on}
 use borrow.Author.Needs.{needs}

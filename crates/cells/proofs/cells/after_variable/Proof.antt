@@ -1,4 +1,4 @@
--- `reader::cells::after_variable` meets its contract. Assumes nothing.
+-- `cells::cells::after_variable` meets its contract. Assumes nothing.
 use native.Mathlib.Omega.{arith}
 use Rattle.cells.proofs.Progresses.{afterVariable-is}
 use borrow.Author.Needs.{needs}

@@ -1,4 +1,4 @@
--- `reader::cells::is_complete` meets its contract. Assumes nothing.
+-- `cells::cells::is_complete` meets its contract. Assumes nothing.
 use borrow.Author.Tests.{eq-eqb, ne-eqb}
 use Rattle.cells.proofs.cells.is_complete.Statement.{statement}
 use Rattle.cells.proofs.cells.is_complete.Tie as tie

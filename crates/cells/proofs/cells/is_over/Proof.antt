@@ -1,4 +1,4 @@
--- `reader::cells::is_over` meets its contract. Assumes nothing.
+-- `cells::cells::is_over` meets its contract. Assumes nothing.
 use borrow.Author.Needs.{needs}
 use Rattle.cells.proofs.cells.is_over.Statement.{statement}
 use Rattle.cells.proofs.cells.is_over.Tie as tie

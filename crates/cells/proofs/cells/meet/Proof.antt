@@ -1,4 +1,4 @@
--- `reader::cells::meet` meets its contract. Assumes nothing.
+-- `cells::cells::meet` meets its contract. Assumes nothing.
 use Prim.Native.Nat.{ℕ}
 use mathlib.Core.Path.{_∙_, ap}
 use lib.ListN.{set}

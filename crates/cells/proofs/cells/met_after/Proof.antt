@@ -1,4 +1,4 @@
--- `reader::cells::met_after` meets its contract. Assumes nothing.
+-- `cells::cells::met_after` meets its contract. Assumes nothing.
 use native.Mathlib.Omega.{arith}
 use borrow.Author.Tests.{lt-ltb, le-ltb}
 use borrow.Author.Needs.{needs}

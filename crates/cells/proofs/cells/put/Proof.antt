@@ -1,4 +1,4 @@
--- `reader::cells::put` meets its contract: a place past the end changes nothing. Assumes nothing.
+-- `cells::cells::put` meets its contract: a place past the end changes nothing. Assumes nothing.
 use mathlib.Core.Path.{sym}
 use lib.Seq.{set-out}
 use borrow.Author.Needs.{needs}

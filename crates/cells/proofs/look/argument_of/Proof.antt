@@ -1,4 +1,4 @@
--- `reader::look::argument_of` meets its contract: each case is the definition's. Assumes nothing.
+-- `cells::look::argument_of` meets its contract: each case is the definition's. Assumes nothing.
 use native.Mathlib.Omega.{arith}
 use borrow.Author.Tests.{le-leb, lt-leb}
 use borrow.Author.Needs.{needs}

@@ -1,4 +1,4 @@
--- `reader::look::look_at` meets its contract. Assumes nothing.
+-- `cells::look::look_at` meets its contract. Assumes nothing.
 use mathlib.Core.Path.{sym}
 use borrow.Author.Tests.{eq-eqb, ne-eqb}
 use borrow.Author.Needs.{needs}

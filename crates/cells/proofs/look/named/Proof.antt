@@ -1,4 +1,4 @@
--- `reader::look::named` meets its contract. Assumes nothing.
+-- `cells::look::named` meets its contract. Assumes nothing.
 use Prim.Native.Nat.{_-_}
 use mathlib.Core.Path.{_∙_, ap}
 use mathlib.Core.List.{List}

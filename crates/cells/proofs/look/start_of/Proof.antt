@@ -1,4 +1,4 @@
--- `reader::look::start_of` meets its contract: each case is the definition's. Assumes nothing.
+-- `cells::look::start_of` meets its contract: each case is the definition's. Assumes nothing.
 use native.Mathlib.Omega.{arith}
 use borrow.Author.Tests.{lt-ltb, le-ltb}
 use borrow.Author.Needs.{needs}

@@ -1,4 +1,4 @@
--- `reader::look::symbol_at` meets its contract. Assumes nothing.
+-- `cells::look::symbol_at` meets its contract. Assumes nothing.
 use borrow.Author.Tests.{lt-ltb, le-ltb}
 use borrow.Author.Needs.{needs}
 use Rattle.cells.proofs.look.symbol_at.Statement.{statement}

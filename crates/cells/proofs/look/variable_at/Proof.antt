@@ -1,4 +1,4 @@
--- `reader::look::variable_at` meets its contract: each test is the definition's. Assumes nothing.
+-- `cells::look::variable_at` meets its contract: each test is the definition's. Assumes nothing.
 use mathlib.Core.Path.{sym}
 use borrow.Author.Tests.{lt-ltb, le-ltb, eq-eqb, ne-eqb}
 use borrow.Author.Needs.{needs}

@@ -1,4 +1,4 @@
--- `reader::declaration::add_declared` meets its contract. Assumes nothing.
+-- `declarations::declaration::add_declared` meets its contract. Assumes nothing.
 use Prim.Native.Nat.{_+_}
 use mathlib.Core.Path.{sym, _∙_}
 use native.Mathlib.Omega.{arith}
@@ -74,9 +74,9 @@ returns c =
     let line = a .line .now in
     let name = between line (declaring + 1) (a .middle) in
     let arity = between line (a .middle + 1) (length line) in (
-      λ ns ws h none same first more. lined-fault ns ws (a .c) (a .next) (a .names .now) (a .marks .now) (a .arities .now) (a .words .now) name (symbolOf ns (a .first) (a .count) (a .base + declaring) name arity) (c .before .number .given .0 .0) (c .before .number .given .0 .1 .0)
-          (sym (symbolOf-kept ns ws (a .c) (a .names .now) (a .marks .now) (a .arities .now) (c .before .before .before .before .before .before .before .before .before .before .before .before .before .pre .0) (h .kept) (a .first) (a .count) (a .base + declaring) name arity first)
-          ∙ sym (c .before .before .before .symbol-of .ensures (λ k l m. h .kept .marked k (omega arith) (omega arith))) ∙ c .before .number .given .1),
+      λ ns ws h none same first more. lined-fault ns ws (a .c) (a .next) (a .names .now) (a .hashes .now) (a .arities .now) (a .words .now) name (symbolOf ns (a .first) (a .count) (a .base + declaring) name arity) (c .before .number .given .0 .0) (c .before .number .given .0 .1 .0)
+          (sym (symbolOf-kept ns ws (a .c) (a .names .now) (a .hashes .now) (a .arities .now) (c .before .before .before .before .before .before .before .before .before .before .before .before .before .pre .0) (h .kept) (a .first) (a .count) (a .base + declaring) name arity first)
+          ∙ sym (c .before .before .before .symbol-of .ensures (λ k l m. h .kept .hashed k (omega arith) (omega arith))) ∙ c .before .number .given .1),
       tt,
     )
 
@@ -98,12 +98,12 @@ returns-2 c =
     let line = a .line .now in
     let name = between line (declaring + 1) (a .middle) in
     let arity = between line (a .middle + 1) (length line) in (
-      λ ns ws h none same first more. lined-symbol ns ws (a .c) (a .next) (a .names .now) (a .marks .now) (a .arities .now) (a .words .now)
+      λ ns ws h none same first more. lined-symbol ns ws (a .c) (a .next) (a .names .now) (a .hashes .now) (a .arities .now) (a .words .now)
           (c .before .before .before .before .before .before .before .before .add-symbol .last .1 .1 .1 .1 .0) (c .before .before .before .before .before .before .before .before .add-symbol .last .1 .1 .1 .1 .1 .0) (c .before .before .before .before .before .before .before .before .add-symbol .last .1 .1 .1 .1 .1 .1 .0) (c .before .before .before .before .before .before .before .before .add-symbol .last .1 .1 .1 .1 .1 .1 .1 .0)
           name (a .first + a .count) (c .before .before .before .before .before .before .before .before .before .before .before .before .before .before .before .before .before .before .before .before .before .before .before .before .before .before .before .pre .0) h first more (c .before .before .before .before .before .before .before .before .before .before .before .before .before .before .before .before .before .before .before .before .before .before .before .before .before .before .before .pre .4) none same (c .before .before .before .before .before .before .before .before .before .before .before .before .before .before .before .before .before .before .before .before .before .before .before .before .before .before .before .pre .6)
           (symbolOf ns (a .first) (a .count) (a .base + declaring) name arity) (c .before .before .before .before .before .before .before .before .before .before .before .before .before .before .before .arity .given .0 .0)
-          (sym (symbolOf-kept ns ws (a .c) (a .names .now) (a .marks .now) (a .arities .now) (c .before .before .before .before .before .before .before .before .before .before .before .before .before .before .before .before .before .before .before .before .before .before .before .before .before .before .before .pre .0) (h .kept) (a .first) (a .count) (a .base + declaring) name arity first)
-          ∙ sym (c .before .before .before .before .before .before .before .before .before .before .before .before .before .before .before .before .before .symbol-of .ensures (λ k l m. h .kept .marked k (omega arith) (omega arith))) ∙ c .before .before .before .before .before .before .before .before .before .before .before .before .before .before .before .arity .given .1)
+          (sym (symbolOf-kept ns ws (a .c) (a .names .now) (a .hashes .now) (a .arities .now) (c .before .before .before .before .before .before .before .before .before .before .before .before .before .before .before .before .before .before .before .before .before .before .before .before .before .before .before .pre .0) (h .kept) (a .first) (a .count) (a .base + declaring) name arity first)
+          ∙ sym (c .before .before .before .before .before .before .before .before .before .before .before .before .before .before .before .before .before .symbol-of .ensures (λ k l m. h .kept .hashed k (omega arith) (omega arith))) ∙ c .before .before .before .before .before .before .before .before .before .before .before .before .before .before .before .arity .given .1)
           (c .before .before .before .before .before .before .before .before .add-symbol .ensures),
       (c .before .before .before .before .before .before .before .before .before .before .before .before .before .before .before .before .before .before .before .before .before .before .before .before .before .before .before .pre .5, omega (arith, c .before .before .before .before .before .before .before .before .before .before .before .before .before .before .before .before .before .before .before .before .before .before .before .before .before .before .before .pre .6)),
     )

@@ -1,10 +1,10 @@
--- `reader::declaration::func_line` meets its contract: each test is the definition's. Assumes nothing.
+-- `declarations::declaration::func_line` meets its contract: each test is the definition's. Assumes nothing.
 use mathlib.Core.Path.{refl, sym, _∙_}
 use native.Mathlib.Omega.{arith}
 use borrow.Author.Tests.{eq-eqb, ne-eqb, not-true, not-false}
 use Rattle.text.specs.Line.{behind, tab}
 use Rattle.declarations.specs.Declarations.{declaring}
-use Rattle.cells.specs.Room.{tableOf}
+use Rattle.cells.specs.Room.{textSoFar}
 use Rattle.declarations.proofs.DeclaredLines.{func-wrong, lined-wrong, open-few}
 use borrow.Author.Needs.{needs}
 use Rattle.declarations.proofs.declaration.func_line.Statement.{statement}
@@ -47,7 +47,7 @@ returns-3 : tie.Need-returns-3
 returns-3 c =
     let f = rw (c .enum-told .given .1) at (c .before .before .two-fields .ensures) in
     let a = c .before .before .before .before .before .before .before .before .args in
-    (λ ns ws h. lined-wrong (a .names .now) (a .marks .now) (a .arities .now) (a .words .now) _ (func-wrong (tableOf (a .c) ns ws) (a .base) (behind tab (a .line .now) declaring) f), tt)
+    (λ ns ws h. lined-wrong (a .names .now) (a .hashes .now) (a .arities .now) (a .words .now) _ (func-wrong (textSoFar (a .c) ns ws) (a .base) (behind tab (a .line .now) declaring) f), tt)
 
 same-length : tie.Need-same-length
 same-length c = search needs

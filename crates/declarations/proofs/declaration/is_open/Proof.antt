@@ -1,4 +1,4 @@
--- `reader::declaration::is_open` meets its contract. Assumes nothing.
+-- `declarations::declaration::is_open` meets its contract. Assumes nothing.
 use native.Mathlib.Omega.{arith}
 use borrow.Author.Tests.{lt-ltb, le-ltb}
 use Rattle.declarations.proofs.declaration.is_open.Statement.{statement}

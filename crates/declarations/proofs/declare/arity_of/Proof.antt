@@ -1,4 +1,4 @@
--- `reader::declare::arity_of` meets its contract. Assumes nothing.
+-- `declarations::declare::arity_of` meets its contract. Assumes nothing.
 use mathlib.Core.Path.{sym}
 use borrow.Author.Tests.{lt-ltb, le-ltb}
 use borrow.Author.Needs.{needs}

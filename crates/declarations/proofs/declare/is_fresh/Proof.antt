@@ -1,4 +1,4 @@
--- `reader::declare::is_fresh` meets its contract. Assumes nothing.
+-- `declarations::declare::is_fresh` meets its contract. Assumes nothing.
 use Prim.Native.Nat.{ℕ, _+_, _-_}
 use mathlib.Core.Path.{_≡_, sym, _∙_, ap}
 use mathlib.Core.List.{List}

@@ -1,4 +1,4 @@
--- `reader::declare::symbol_of` meets its contract. Assumes nothing.
+-- `declarations::declare::symbol_of` meets its contract. Assumes nothing.
 use mathlib.Core.Path.{sym, _∙_}
 use borrow.Author.Tests.{not-true, not-false}
 use borrow.Author.Needs.{needs}

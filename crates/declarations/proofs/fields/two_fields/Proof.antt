@@ -1,4 +1,4 @@
--- `reader::fields::two_fields` meets its contract: the fields are counted as far as the third. Assumes nothing.
+-- `declarations::fields::two_fields` meets its contract: the fields are counted as far as the third. Assumes nothing.
 use Prim.Native.Nat.{ℕ, _+_}
 use mathlib.Core.Path.{_≡_, refl, ap, _∙_}
 use mathlib.Core.List.{List, [], _∷_}

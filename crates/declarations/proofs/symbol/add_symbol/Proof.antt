@@ -1,9 +1,9 @@
--- `reader::symbol::add_symbol` meets its contract. Assumes nothing.
+-- `declarations::symbol::add_symbol` meets its contract. Assumes nothing.
 use Prim.Native.Nat.{ℕ}
 use mathlib.Core.Path.{ap, _∙_}
 use mathlib.Core.List.{List, _++_}
 use lib.ListN.{set}
-use Rattle.text.specs.Name.{markOf}
+use Rattle.text.specs.Name.{hashOf}
 use Rattle.text.specs.Room.{inRoom}
 use borrow.Author.Needs.{needs}
 use Rattle.declarations.proofs.symbol.add_symbol.Statement.{statement}
@@ -12,14 +12,14 @@ use Rattle.declarations.proofs.symbol.add_symbol.Tie as tie
 pad-requires : tie.Need-pad-requires
 pad-requires c κs = search needs
 
-slice-aggregate-mark-of : tie.Need-slice-aggregate-mark-of
-slice-aggregate-mark-of c = search needs
+slice-aggregate-hash-of : tie.Need-slice-aggregate-hash-of
+slice-aggregate-hash-of c = search needs
 
-mark-of-requires : tie.Need-mark-of-requires
-mark-of-requires c κs = search needs
+hash-of-requires : tie.Need-hash-of-requires
+hash-of-requires c κs = search needs
 
-put-mark-requires : tie.Need-put-mark-requires
-put-mark-requires c κs = search needs
+put-hash-requires : tie.Need-put-hash-requires
+put-hash-requires c κs = search needs
 
 mul-put-name : tie.Need-mul-put-name
 mul-put-name c = search needs
@@ -53,7 +53,7 @@ returns c =
     let a = c .before .before .before .before .before .before .before .before .before .before .before .before .before .before .before .before .before .before .before .before .before .before .before .before .before .args in
     record {
       named = λ room ns e f. c .before .before .before .before .before .before .before .before .before .before .put-name .ensures room ns e f ∙ ap (λ (k : List ℕ). inRoom room (ns ++ k)) (c .before .before .before .before .before .before .before .before .before .before .before .before .before .before .before .before .before .before .before .pad .ensures);
-      marked = c .before .before .before .before .before .before .before .before .before .before .before .before .before .before .before .put-mark .ensures ∙ ap (set (a .marks .now) (a .n)) (c .before .before .before .before .before .before .before .before .before .before .before .before .before .before .before .before .mark-of .ensures ∙ ap markOf (c .before .before .before .before .before .before .before .before .before .before .before .before .before .before .before .before .before .before .before .pad .ensures));
+      hashed = c .before .before .before .before .before .before .before .before .before .before .before .before .before .before .before .put-hash .ensures ∙ ap (set (a .hashes .now) (a .n)) (c .before .before .before .before .before .before .before .before .before .before .before .before .before .before .before .before .hash-of .ensures ∙ ap hashOf (c .before .before .before .before .before .before .before .before .before .before .before .before .before .before .before .before .before .before .before .pad .ensures));
       sized = c .before .before .before .before .before .before .put .ensures;
       word = c .before .before .put2 .ensures;
     }
@@ -63,9 +63,9 @@ add-symbol-spec =
     tie.close
     (tie.spec
     pad-requires
-    slice-aggregate-mark-of
-    mark-of-requires
-    put-mark-requires
+    slice-aggregate-hash-of
+    hash-of-requires
+    put-hash-requires
     mul-put-name
     slice-aggregate-put-name
     put-name-requires

@@ -1,4 +1,4 @@
--- `reader::symbol::put_name` meets its contract. The loop's invariant: the name's bytes so far stand behind the others. Assumes nothing.
+-- `declarations::symbol::put_name` meets its contract. The loop's invariant: the name's bytes so far stand behind the others. Assumes nothing.
 use Prim.Native.Nat.{ℕ, _+_, _-_, _≤_}
 use mathlib.Core.Path.{_≡_, refl}
 use mathlib.Core.List.{List, _++_, append-nil}
@@ -6,7 +6,7 @@ use native.Mathlib.Omega.{arith}
 use lib.ListN.{length, take, length-set}
 use Rattle.text.specs.Name.{nameBytes}
 use Rattle.text.specs.Room.{inRoom}
-use Rattle.cells.proofs.Kepts.{byte-behind, all-behind}
+use Rattle.cells.proofs.HeldSymbols.{byte-behind, all-behind}
 use Rattle.declarations.proofs.symbol.put_name.Statement.{statement}
 use Rattle.declarations.proofs.symbol.put_name.Tie as tie
 

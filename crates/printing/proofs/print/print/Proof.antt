@@ -4,7 +4,7 @@ use native.Mathlib.Omega.{arith}
 use lib.Seq.{length-take-le}
 use borrow.Author.Needs.{needs}
 use Rattle.printing.specs.Printed.{unread, read}
-use Rattle.printing.proofs.ReadRooms.{refused-unread, accepted-kept}
+use Rattle.printing.proofs.ReadRooms.{refused-unread, accepted-left}
 use Rattle.printing.proofs.print.print.Statement.{statement}
 use Rattle.printing.proofs.print.print.Tie as tie
 
@@ -26,24 +26,24 @@ same-length c = search needs
 returns : tie.Need-returns
 returns c =
     let r = c .before .before .before .before .before .before .before .before .read in
-    (c .before .before .refuse .ensures .0, unread _ _ (refused-unread (c .before .before .before .before .before .before .before .before .before .before .before .before .before .args .text .now) (r .ensures .0) (c .before .before .before .before .if1 .taken)) (c .before .before .refuse .ensures .1))
+    (c .before .before .refuse .ensures .0, unread _ _ (refused-unread (c .before .before .before .before .before .before .before .before .before .before .before .before .before .args .text .now) (r .ensures) (c .before .before .before .before .if1 .taken)) (c .before .before .refuse .ensures .1))
 
 array-share-prefix-words : tie.Need-array-share-prefix-words
 array-share-prefix-words c =
     let r = c .before .before .before .before .read in
-    let k = accepted-kept (c .before .before .before .before .before .before .before .before .before .args .text .now) (r .ensures .0) (r .ensures .1 .0) (r .ensures .1 .1) (c .if1 .left) in
+    let k = accepted-left (c .before .before .before .before .before .before .before .before .before .args .text .now) (r .ensures) (c .if1 .left) in
     omega (arith, k .words-fit, r .kept .1 .0)
 
 slice-aggregate-program : tie.Need-slice-aggregate-program
 slice-aggregate-program c =
     let r = c .before .before .before .before .before .read in
-    let k = accepted-kept (c .before .before .before .before .before .before .before .before .before .before .args .text .now) (r .ensures .0) (r .ensures .1 .0) (r .ensures .1 .1) (c .before .if1 .left) in
+    let k = accepted-left (c .before .before .before .before .before .before .before .before .before .before .args .text .now) (r .ensures) (c .before .if1 .left) in
     sym (length-take-le (r .result .count) (r .last .1 .0) (omega (arith, k .words-fit, r .kept .1 .0)))
 
 shared-slice-read-wide : tie.Need-shared-slice-read-wide
 shared-slice-read-wide c =
     let r = c .before .before .before .before .before .before .read in
-    let k = accepted-kept (c .before .before .before .before .before .before .before .before .before .before .before .args .text .now) (r .ensures .0) (r .ensures .1 .0) (r .ensures .1 .1) (c .before .before .if1 .left) in
+    let k = accepted-left (c .before .before .before .before .before .before .before .before .before .before .before .args .text .now) (r .ensures) (c .before .before .if1 .left) in
     omega (arith, k .counts-there, length-take-le (r .result .count) (r .last .1 .0) (omega (arith, k .words-fit, r .kept .1 .0)))
 
 wide-requires : tie.Need-wide-requires
@@ -52,7 +52,7 @@ wide-requires c κs = search needs
 shared-slice-read-wide-2 : tie.Need-shared-slice-read-wide-2
 shared-slice-read-wide-2 c =
     let r = c .before .before .before .before .before .before .before .before .read in
-    let k = accepted-kept (c .before .before .before .before .before .before .before .before .before .before .before .before .before .args .text .now) (r .ensures .0) (r .ensures .1 .0) (r .ensures .1 .1) (c .before .before .before .before .if1 .left) in
+    let k = accepted-left (c .before .before .before .before .before .before .before .before .before .before .before .before .before .args .text .now) (r .ensures) (c .before .before .before .before .if1 .left) in
     omega (arith, k .counts-there, length-take-le (r .result .count) (r .last .1 .0) (omega (arith, k .words-fit, r .kept .1 .0)))
 
 wide-requires-2 : tie.Need-wide-requires-2
@@ -67,13 +67,13 @@ mul-size c = search needs
 array-share-prefix-names : tie.Need-array-share-prefix-names
 array-share-prefix-names c =
     let r = c .before .before .before .before .before .before .before .before .before .read in
-    let k = accepted-kept (c .before .before .before .before .before .before .before .before .before .before .before .before .before .before .args .text .now) (r .ensures .0) (r .ensures .1 .0) (r .ensures .1 .1) (c .before .before .before .before .before .if1 .left) in
+    let k = accepted-left (c .before .before .before .before .before .before .before .before .before .before .before .before .before .before .args .text .now) (r .ensures) (c .before .before .before .before .before .if1 .left) in
     omega (arith, k .names-fit, c .before .before .wide .ensures .0, c .wide2 .ensures .0, r .kept .1 .1 .0)
 
 slice-aggregate-print-listing : tie.Need-slice-aggregate-print-listing
 slice-aggregate-print-listing c =
     let r = c .before .before .before .before .before .before .before .before .before .before .read in
-    let k = accepted-kept (c .before .before .before .before .before .before .before .before .before .before .before .before .before .before .before .args .text .now) (r .ensures .0) (r .ensures .1 .0) (r .ensures .1 .1) (c .before .before .before .before .before .before .if1 .left) in
+    let k = accepted-left (c .before .before .before .before .before .before .before .before .before .before .before .before .before .before .before .args .text .now) (r .ensures) (c .before .before .before .before .before .before .if1 .left) in
     sym (length-take-le _ (r .last .1 .1 .0) (omega (arith, k .names-fit, c .before .before .before .wide .ensures .0, c .before .wide2 .ensures .0, r .kept .1 .1 .0)))
 
 print-listing-requires : tie.Need-print-listing-requires
@@ -85,9 +85,9 @@ same-length-2 c = search needs
 returns-2 : tie.Need-returns-2
 returns-2 c =
     let r = c .before .before .before .before .before .before .before .before .before .before .before .before .before .before .read in
-    let k = accepted-kept (c .before .before .before .before .before .before .before .before .before .before .before .before .before .before .before .before .before .before .before .args .text .now) (r .ensures .0) (r .ensures .1 .0) (r .ensures .1 .1) (c .before .before .before .before .before .before .before .before .before .before .if1 .left) in
+    let k = accepted-left (c .before .before .before .before .before .before .before .before .before .before .before .before .before .before .before .before .before .before .before .args .text .now) (r .ensures) (c .before .before .before .before .before .before .before .before .before .before .if1 .left) in
     let p = c .before .before .print-listing .ensures in
-    (p .0, read (k .scenario) (k .read) (rw (c .before .before .before .before .before .before .before .wide .ensures .0, c .before .before .before .before .before .wide2 .ensures .0, k .names-kept, k .words-kept) at (p .1)))
+    (p .0, read (k .scenario) (k .read) (rw (c .before .before .before .before .before .before .before .wide .ensures .0, c .before .before .before .before .before .wide2 .ensures .0, k .names-left, k .words-left) at (p .1)))
 
 pub print-spec : {M : Type 1} → statement M
 print-spec =

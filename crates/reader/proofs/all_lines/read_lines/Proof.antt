@@ -7,16 +7,16 @@ use lib.ListN.{length}
 use Rattle.program.specs.Lists.{between}
 use Rattle.text.specs.Line.{parts, tab}
 use Rattle.text_lines.specs.Lines.{fieldsOf}
-use Rattle.cells.specs.Room.{tableOf}
+use Rattle.cells.specs.Room.{textSoFar}
 use Rattle.reader.proofs.TextLines.{Reading, nothing-read, line-within, line-length, text-none, text-wrong, text-more, text-last, text-follows, lined-is-wrong, lined-is-more, lined-is-last, found-wrong, found-right}
 use Rattle.reader.proofs.all_lines.read_lines.Statement.{statement}
 use Rattle.reader.proofs.all_lines.read_lines.Tie as tie
 
 abbrev Inv-loop : tie.InvT-loop
-Inv-loop text names₀ marks₀ arities₀ words₀ c₀ at₀ names marks arities words c at = Reading text names₀ marks₀ arities₀ words₀ names marks arities words c at
+Inv-loop text names₀ hashes₀ arities₀ words₀ c₀ at₀ names hashes arities words c at = Reading text names₀ hashes₀ arities₀ words₀ names hashes arities words c at
 
 abbrev μ-loop : tie.MeasureT-loop
-μ-loop text names₀ marks₀ arities₀ words₀ c₀ at₀ names marks arities words c at = length text + 1 - at
+μ-loop text names₀ hashes₀ arities₀ words₀ c₀ at₀ names hashes arities words c at = length text + 1 - at
 
 loop-holds : tie.Need-loop-holds Inv-loop μ-loop
 loop-holds c =
@@ -26,10 +26,10 @@ loop-holds c =
       slow = omega arith;
       limited = omega arith;
       name-length = refl;
-      mark-length = refl;
+      hash-length = refl;
       arity-length = refl;
       word-length = refl;
-      says = nothing-read (a .text .now) (a .names .now) (a .marks .now) (a .arities .now) (a .words .now);
+      says = nothing-read (a .text .now) (a .names .now) (a .hashes .now) (a .arities .now) (a .words .now);
     }
 
 find-requires : tie.Need-find-requires Inv-loop μ-loop
@@ -39,7 +39,7 @@ same-length : tie.Need-same-length Inv-loop μ-loop
 same-length c = c .before .before .loop .inv .name-length
 
 same-length-2 : tie.Need-same-length-2 Inv-loop μ-loop
-same-length-2 c = c .before .before .loop .inv .mark-length
+same-length-2 c = c .before .before .loop .inv .hash-length
 
 same-length-3 : tie.Need-same-length-3 Inv-loop μ-loop
 same-length-3 c = c .before .before .loop .inv .arity-length
@@ -52,7 +52,7 @@ returns c =
     let a = c .before .before .before .before .before .before .before .before .args in
     let l = c .before .before .loop in
     λ e f. let s = l .inv .says e f in found-wrong (l .names) (l .words) _
-    (s .rest ∙ text-none (a .text .now) (l .at) (c .before .find .result) (l .inv .within) (c .before .find .ensures) (tableOf (l .c) (s .ns) (s .ws)) (c .if1 .taken))
+    (s .rest ∙ text-none (a .text .now) (l .at) (c .before .find .result) (l .inv .within) (c .before .find .ensures) (textSoFar (l .c) (s .ns) (s .ws)) (c .if1 .taken))
 
 sub-read-line : tie.Need-sub-read-line Inv-loop μ-loop
 sub-read-line c = omega (arith, c .before .find .ensures)
@@ -72,7 +72,7 @@ read-line-requires c κs =
         few-predicates = l .inv .limited .predicates;
         few-functions = l .inv .limited .functions;
         name-room = l .inv .name-length ∙ c .before .before .before .before .before .before .before .before .before .before .before .before .before .pre .1;
-        mark-room = l .inv .mark-length ∙ c .before .before .before .before .before .before .before .before .before .before .before .before .before .pre .2;
+        hash-room = l .inv .hash-length ∙ c .before .before .before .before .before .before .before .before .before .before .before .before .before .pre .2;
         arity-room = l .inv .arity-length ∙ c .before .before .before .before .before .before .before .before .before .before .before .before .before .pre .3;
       },
       l .inv .limited,
@@ -87,7 +87,7 @@ same-length-5 : tie.Need-same-length-5 Inv-loop μ-loop
 same-length-5 c = c .before .before .before .before .before .before .before .before .before .before .before .read-line .kept .1 .1 .1 .0 ∙ c .before .before .before .before .before .before .before .before .before .before .before .before .before .before .before .before .before .before .before .loop .inv .name-length
 
 same-length-6 : tie.Need-same-length-6 Inv-loop μ-loop
-same-length-6 c = c .before .before .before .before .before .before .before .before .before .before .before .read-line .kept .1 .1 .1 .1 .0 ∙ c .before .before .before .before .before .before .before .before .before .before .before .before .before .before .before .before .before .before .before .loop .inv .mark-length
+same-length-6 c = c .before .before .before .before .before .before .before .before .before .before .before .read-line .kept .1 .1 .1 .1 .0 ∙ c .before .before .before .before .before .before .before .before .before .before .before .before .before .before .before .before .before .before .before .loop .inv .hash-length
 
 same-length-7 : tie.Need-same-length-7 Inv-loop μ-loop
 same-length-7 c = c .before .before .before .before .before .before .before .before .before .before .before .read-line .kept .1 .1 .1 .1 .1 .0 ∙ c .before .before .before .before .before .before .before .before .before .before .before .before .before .before .before .before .before .before .before .loop .inv .arity-length
@@ -102,7 +102,7 @@ returns-2 c =
     let r = c .before .before .before .before .before .before .before .before .before .before .before .read-line in
     let line = between (a .text .now) (l .at) (c .before .before .before .before .before .before .before .before .before .before .before .before .before .before .before .before .before .before .find .result) in
     λ e f. let s = l .inv .says e f in
-    let t = tableOf (l .c) (s .ns) (s .ws) in
+    let t = textSoFar (l .c) (s .ns) (s .ws) in
     found-wrong _ _ _ (s .rest ∙ text-wrong (a .text .now) (l .at) (c .before .before .before .before .before .before .before .before .before .before .before .before .before .before .before .before .before .before .find .result) (l .inv .within) (c .before .before .before .before .before .before .before .before .before .before .before .before .before .before .before .before .before .before .find .ensures) (c .before .before .before .before .before .before .before .before .before .before .before .before .before .before .before .before .before .if1 .left) t (c .before .number .given .0 .0) (c .before .number .given .0 .1 .0)
     (lined-is-wrong (r .last .1 .1 .1 .0) (r .last .1 .1 .1 .1 .0) (r .last .1 .1 .1 .1 .1 .0) (r .last .1 .1 .1 .1 .1 .1 .0) (fieldsOf t (l .at) (parts tab line)) (c .before .number .given .0 .0) (c .before .number .given .0 .1 .0)
     (rw (c .before .number .given .1) at (r .ensures .0 (s .ns) (s .ws) (s .holds)))))
@@ -129,18 +129,18 @@ loop-again c =
       slow = omega (arith, g .1, w, l .inv .slow, c .before .before .before .before .before .before .before .before .before .before .before .before .before .before .before .before .before .before .find .ensures);
       limited = g .0;
       name-length = r .kept .1 .1 .1 .0 ∙ l .inv .name-length;
-      mark-length = r .kept .1 .1 .1 .1 .0 ∙ l .inv .mark-length;
+      hash-length = r .kept .1 .1 .1 .1 .0 ∙ l .inv .hash-length;
       arity-length = r .kept .1 .1 .1 .1 .1 .0 ∙ l .inv .arity-length;
       word-length = r .kept .1 .1 .1 .1 .1 .1 .0 ∙ l .inv .word-length;
       says = λ e f. let s = l .inv .says e f in
-          let t = tableOf (l .c) (s .ns) (s .ws) in
+          let t = textSoFar (l .c) (s .ns) (s .ws) in
           let q = lined-is-more (r .last .1 .1 .1 .0) (r .last .1 .1 .1 .1 .0) (r .last .1 .1 .1 .1 .1 .0) (r .last .1 .1 .1 .1 .1 .1 .0) (fieldsOf t (l .at) (parts tab line)) (c .before .next .given .0 .0)
           (rw (c .before .next .given .1) at (r .ensures .0 (s .ns) (s .ws) (s .holds))) in
           record {
             ns = q .ns;
             ws = q .ws;
             holds = q .holds;
-            rest = s .rest ∙ text-more (a .text .now) (l .at) (c .before .before .before .before .before .before .before .before .before .before .before .before .before .before .before .before .before .before .find .result) (l .inv .within) (c .before .before .before .before .before .before .before .before .before .before .before .before .before .before .before .before .before .before .find .ensures) (c .before .before .before .before .before .before .before .before .before .before .before .before .before .before .before .before .before .if1 .left) t (tableOf (c .before .next .given .0 .0) (q .ns) (q .ws)) (q .is);
+            rest = s .rest ∙ text-more (a .text .now) (l .at) (c .before .before .before .before .before .before .before .before .before .before .before .before .before .before .before .before .before .before .find .result) (l .inv .within) (c .before .before .before .before .before .before .before .before .before .before .before .before .before .before .before .before .before .before .find .ensures) (c .before .before .before .before .before .before .before .before .before .before .before .before .before .before .before .before .before .if1 .left) t (textSoFar (c .before .next .given .0 .0) (q .ns) (q .ws)) (q .is);
           };
     }
 
@@ -157,7 +157,7 @@ same-length-9 : tie.Need-same-length-9 Inv-loop μ-loop
 same-length-9 c = c .before .before .before .before .before .before .before .before .before .before .before .before .read-line .kept .1 .1 .1 .0 ∙ c .before .before .before .before .before .before .before .before .before .before .before .before .before .before .before .before .before .before .before .before .loop .inv .name-length
 
 same-length-10 : tie.Need-same-length-10 Inv-loop μ-loop
-same-length-10 c = c .before .before .before .before .before .before .before .before .before .before .before .before .read-line .kept .1 .1 .1 .1 .0 ∙ c .before .before .before .before .before .before .before .before .before .before .before .before .before .before .before .before .before .before .before .before .loop .inv .mark-length
+same-length-10 c = c .before .before .before .before .before .before .before .before .before .before .before .before .read-line .kept .1 .1 .1 .1 .0 ∙ c .before .before .before .before .before .before .before .before .before .before .before .before .before .before .before .before .before .before .before .before .loop .inv .hash-length
 
 same-length-11 : tie.Need-same-length-11 Inv-loop μ-loop
 same-length-11 c = c .before .before .before .before .before .before .before .before .before .before .before .before .read-line .kept .1 .1 .1 .1 .1 .0 ∙ c .before .before .before .before .before .before .before .before .before .before .before .before .before .before .before .before .before .before .before .before .loop .inv .arity-length
@@ -172,7 +172,7 @@ returns-3 c =
     let r = c .before .before .before .before .before .before .before .before .before .before .before .before .read-line in
     let line = between (a .text .now) (l .at) (c .before .before .before .before .before .before .before .before .before .before .before .before .before .before .before .before .before .before .before .find .result) in
     λ e f. let s = l .inv .says e f in
-    let t = tableOf (l .c) (s .ns) (s .ws) in
+    let t = textSoFar (l .c) (s .ns) (s .ws) in
     let q = lined-is-last (r .last .1 .1 .1 .0) (r .last .1 .1 .1 .1 .0) (r .last .1 .1 .1 .1 .1 .0) (r .last .1 .1 .1 .1 .1 .1 .0) (fieldsOf t (l .at) (parts tab line)) (c .before .before .words2 .given .0 .0) (c .before .before .words2 .given .0 .1 .0)
     (rw (c .before .before .words2 .given .1) at (r .ensures .0 (s .ns) (s .ws) (s .holds))) in
     found-wrong _ _ _ (s .rest ∙ text-follows (a .text .now) (l .at) (c .before .before .before .before .before .before .before .before .before .before .before .before .before .before .before .before .before .before .before .find .result) (l .inv .within) (c .before .before .before .before .before .before .before .before .before .before .before .before .before .before .before .before .before .before .before .find .ensures) (c .before .before .before .before .before .before .before .before .before .before .before .before .before .before .before .before .before .before .if1 .left) t (q .scenario) (q .is) (c .if2 .taken))
@@ -181,7 +181,7 @@ same-length-13 : tie.Need-same-length-13 Inv-loop μ-loop
 same-length-13 c = c .before .before .before .before .before .before .before .before .before .before .before .before .read-line .kept .1 .1 .1 .0 ∙ c .before .before .before .before .before .before .before .before .before .before .before .before .before .before .before .before .before .before .before .before .loop .inv .name-length
 
 same-length-14 : tie.Need-same-length-14 Inv-loop μ-loop
-same-length-14 c = c .before .before .before .before .before .before .before .before .before .before .before .before .read-line .kept .1 .1 .1 .1 .0 ∙ c .before .before .before .before .before .before .before .before .before .before .before .before .before .before .before .before .before .before .before .before .loop .inv .mark-length
+same-length-14 c = c .before .before .before .before .before .before .before .before .before .before .before .before .read-line .kept .1 .1 .1 .1 .0 ∙ c .before .before .before .before .before .before .before .before .before .before .before .before .before .before .before .before .before .before .before .before .loop .inv .hash-length
 
 same-length-15 : tie.Need-same-length-15 Inv-loop μ-loop
 same-length-15 c = c .before .before .before .before .before .before .before .before .before .before .before .before .read-line .kept .1 .1 .1 .1 .1 .0 ∙ c .before .before .before .before .before .before .before .before .before .before .before .before .before .before .before .before .before .before .before .before .loop .inv .arity-length
@@ -196,7 +196,7 @@ returns-4 c =
     let r = c .before .before .before .before .before .before .before .before .before .before .before .before .read-line in
     let line = between (a .text .now) (l .at) (c .before .before .before .before .before .before .before .before .before .before .before .before .before .before .before .before .before .before .before .find .result) in
     λ e f. let s = l .inv .says e f in
-    let t = tableOf (l .c) (s .ns) (s .ws) in
+    let t = textSoFar (l .c) (s .ns) (s .ws) in
     let q = lined-is-last (r .last .1 .1 .1 .0) (r .last .1 .1 .1 .1 .0) (r .last .1 .1 .1 .1 .1 .0) (r .last .1 .1 .1 .1 .1 .1 .0) (fieldsOf t (l .at) (parts tab line)) (c .before .before .words2 .given .0 .0) (c .before .before .words2 .given .0 .1 .0)
     (rw (c .before .before .words2 .given .1) at (r .ensures .0 (s .ns) (s .ws) (s .holds))) in
     found-right _ _ (fieldsOf t (l .at) (parts tab line)) _ _ _ q (s .rest ∙ text-last (a .text .now) (l .at) (c .before .before .before .before .before .before .before .before .before .before .before .before .before .before .before .before .before .before .before .find .result) (l .inv .within) (c .before .before .before .before .before .before .before .before .before .before .before .before .before .before .before .before .before .before .before .find .ensures) (c .before .before .before .before .before .before .before .before .before .before .before .before .before .before .before .before .before .before .if1 .left) t (q .scenario) (q .is) (c .if2 .left))

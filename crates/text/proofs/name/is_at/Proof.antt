@@ -1,13 +1,13 @@
--- `text::name::is_at` meets its contract: where the marks differ, so do the names. Assumes nothing.
+-- `text::name::is_at` meets its contract: where the hashes differ, so do the names. Assumes nothing.
 use mathlib.Core.Path.{sym, _∙_}
-use Rattle.text.proofs.Names.{marks-apart}
+use Rattle.text.proofs.Names.{hashes-apart}
 use Rattle.text.specs.Name.{entry}
 use borrow.Author.Needs.{needs}
 use Rattle.text.proofs.name.is_at.Statement.{statement}
 use Rattle.text.proofs.name.is_at.Tie as tie
 
 returns : tie.Need-returns
-returns c = λ e f. sym (marks-apart (entry (c .before .before .before .args .names .now) (c .before .before .before .args .i)) (c .before .before .before .args .key .now) (λ g. c .if1 .taken (e ∙ g ∙ sym f)))
+returns c = λ e f. sym (hashes-apart (entry (c .before .before .before .args .names .now) (c .before .before .before .args .i)) (c .before .before .before .args .key .now) (λ g. c .if1 .taken (e ∙ g ∙ sym f)))
 
 mul-stands-at : tie.Need-mul-stands-at
 mul-stands-at c = search needs

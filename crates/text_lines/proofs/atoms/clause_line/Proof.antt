@@ -1,4 +1,4 @@
--- `reader::atoms::clause_line` meets its contract. Assumes nothing.
+-- `text_lines::atoms::clause_line` meets its contract. Assumes nothing.
 use Prim.Native.Nat.{_+_, _-_}
 use mathlib.Core.Path.{refl, sym, _∙_}
 use mathlib.Core.List.{[], _∷_, _++_}
@@ -7,7 +7,7 @@ use mathlib.Core.Bool.{false}
 use borrow.Author.Tests.{not-true, not-false}
 use Rattle.text.specs.Line.{behind, tab}
 use Rattle.cells.specs.Cells.{noCells, cellsOf}
-use Rattle.cells.specs.Room.{tableOf}
+use Rattle.cells.specs.Room.{textSoFar}
 use Rattle.declarations.proofs.DeclaredLines.{open-few}
 use Rattle.text_lines.proofs.AtomLines.{length-room, length-place, cells-fault, cells-done, lined-clause}
 use borrow.Author.Needs.{needs}
@@ -61,8 +61,8 @@ returns-2 : tie.Need-returns-2
 returns-2 c =
     let a = c .before .before .before .before .before .before .before .before .before .before .before .before .before .before .before .before .before .before .before .before .args in (
       λ ns ws h f. let e = cells-fault ((0 ∷ 0 ∷ 0 ∷ ws) ++ 0 ∷ []) (c .before .before .before .before .before .before .read-cells .last .1 .1 .1 .1 .1 .1 .1 .1 .1 .0) (c .before .before .before .before .before .before .read-cells .last .1 .1 .1 .1 .1 .1 .1 .1 .0)
-          (cellsOf (tableOf (a .c) ns ws) false noCells (a .base + a .from) (behind tab (a .line .now) (a .from))) (c .before .number .given .0 .0) (c .before .number .given .0 .1 .0)
-          (rw (c .before .number .given .1) at (c .before .before .before .before .before .before .read-cells .ensures .0 ns ws ((0 ∷ 0 ∷ 0 ∷ ws) ++ 0 ∷ []) (h .kept) (c .before .before .before .before .before .before .before .before .before .before .before .put .ensures ∙ length-room ns ws (a .c) (a .names .now) (a .marks .now) (a .arities .now) (a .words .now) h) (length-place ns ws (a .c) (a .names .now) (a .marks .now) (a .arities .now) (a .words .now) h) refl)) in
+          (cellsOf (textSoFar (a .c) ns ws) false noCells (a .base + a .from) (behind tab (a .line .now) (a .from))) (c .before .number .given .0 .0) (c .before .number .given .0 .1 .0)
+          (rw (c .before .number .given .1) at (c .before .before .before .before .before .before .read-cells .ensures .0 ns ws ((0 ∷ 0 ∷ 0 ∷ ws) ++ 0 ∷ []) (h .kept) (c .before .before .before .before .before .before .before .before .before .before .before .put .ensures ∙ length-room ns ws (a .c) (a .names .now) (a .hashes .now) (a .arities .now) (a .words .now) h) (length-place ns ws (a .c) (a .names .now) (a .hashes .now) (a .arities .now) (a .words .now) h) refl)) in
           rw (sym (c .before .before .before .before .before .before .before .before .before .before .before .before .before .before .is-open .ensures) ∙ not-false _ (c .before .before .before .before .before .before .before .before .before .before .before .before .before .if1 .left), sym f, e),
       tt,
     )
@@ -77,10 +77,10 @@ returns-3 c =
     let g = rw (c .before .before .before .before .before .before .before .before .p .given .1) at (c .before .before .before .before .before .before .before .before .before .before .before .before .before .read-cells .ensures .1) in
     let p = c .before .before .before .before .before .before .before .before .p .given .0 .0 in (
       λ ns ws h f. let e = cells-done ((0 ∷ 0 ∷ 0 ∷ ws) ++ 0 ∷ []) (c .before .before .before .before .before .before .before .before .before .before .before .before .before .read-cells .last .1 .1 .1 .1 .1 .1 .1 .1 .1 .0) (c .before .before .before .before .before .before .before .before .before .before .before .before .before .read-cells .last .1 .1 .1 .1 .1 .1 .1 .1 .0)
-          (cellsOf (tableOf (a .c) ns ws) false noCells (a .base + a .from) (behind tab (a .line .now) (a .from))) p
-          (rw (c .before .before .before .before .before .before .before .before .p .given .1) at (c .before .before .before .before .before .before .before .before .before .before .before .before .before .read-cells .ensures .0 ns ws ((0 ∷ 0 ∷ 0 ∷ ws) ++ 0 ∷ []) (h .kept) (c .before .before .before .before .before .before .before .before .before .before .before .before .before .before .before .before .before .before .put .ensures ∙ length-room ns ws (a .c) (a .names .now) (a .marks .now) (a .arities .now) (a .words .now) h) (length-place ns ws (a .c) (a .names .now) (a .marks .now) (a .arities .now) (a .words .now) h) refl)) in
+          (cellsOf (textSoFar (a .c) ns ws) false noCells (a .base + a .from) (behind tab (a .line .now) (a .from))) p
+          (rw (c .before .before .before .before .before .before .before .before .p .given .1) at (c .before .before .before .before .before .before .before .before .before .before .before .before .before .read-cells .ensures .0 ns ws ((0 ∷ 0 ∷ 0 ∷ ws) ++ 0 ∷ []) (h .kept) (c .before .before .before .before .before .before .before .before .before .before .before .before .before .before .before .before .before .before .put .ensures ∙ length-room ns ws (a .c) (a .names .now) (a .hashes .now) (a .arities .now) (a .words .now) h) (length-place ns ws (a .c) (a .names .now) (a .hashes .now) (a .arities .now) (a .words .now) h) refl)) in
           rw (sym (c .before .before .before .before .before .before .before .before .before .before .before .before .before .before .before .before .before .before .before .before .before .is-open .ensures) ∙ not-false _ (c .before .before .before .before .before .before .before .before .before .before .before .before .before .before .before .before .before .before .before .before .if1 .left), sym f)
-          (lined-clause ns ws (a .c) (a .names .now) (a .marks .now) (a .arities .now) (a .words .now) h _ p (c .before .before .before .before .before .before .before .before .before .before .before .before .before .read-cells .last .1 .1 .1 .1 .1 .1 .1 .1 .1 .0) (c .before .before .before .before .before .before .before .before .before .before .before .before .before .read-cells .last .1 .1 .1 .1 .1 .1 .1 .1 .0) e
+          (lined-clause ns ws (a .c) (a .names .now) (a .hashes .now) (a .arities .now) (a .words .now) h _ p (c .before .before .before .before .before .before .before .before .before .before .before .before .before .read-cells .last .1 .1 .1 .1 .1 .1 .1 .1 .1 .0) (c .before .before .before .before .before .before .before .before .before .before .before .before .before .read-cells .last .1 .1 .1 .1 .1 .1 .1 .1 .0) e
           (c .before .before .before .before .narrow .result) (c .before .before .before .put2 .last .0) (c .before .before .before .before .narrow .ensures (omega (arith, e .stands .atom-count))) (c .before .before .before .put2 .ensures)),
       (omega (arith, c .before .before .before .before .before .before .before .before .before .before .before .before .before .before .before .before .before .before .before .before .before .before .before .before .before .before .before .pre .1, o), omega (arith, g)),
     )

@@ -1,4 +1,4 @@
--- `reader::atoms::put_counts` meets its contract. Assumes nothing.
+-- `text_lines::atoms::put_counts` meets its contract. Assumes nothing.
 use Prim.Native.Nat.{ℕ}
 use mathlib.Core.Path.{ap, _∙_}
 use mathlib.Core.List.{List}

@@ -1,4 +1,4 @@
--- `reader::atoms::put_goal` meets its contract. Assumes nothing.
+-- `text_lines::atoms::put_goal` meets its contract. Assumes nothing.
 use mathlib.Core.Path.{ap, _∙_}
 use native.Mathlib.Omega.{arith}
 use lib.ListN.{set}

@@ -1,4 +1,4 @@
--- `reader::atoms::put_modes` meets its contract. The loop's invariant: the modes so far stand behind the words. Assumes nothing.
+-- `text_lines::atoms::put_modes` meets its contract. The loop's invariant: the modes so far stand behind the words. Assumes nothing.
 use Prim.Native.Nat.{ℕ, _+_, _-_, _≤_}
 use mathlib.Core.Path.{_≡_, refl, ap, _∙_}
 use mathlib.Core.List.{List, _++_, append-nil}
@@ -8,7 +8,7 @@ use lib.ListN.{length, take, set, getD}
 use Rattle.terms.specs.Cells.{variables}
 use Rattle.text.specs.Room.{inRoom}
 use Rattle.text.proofs.Rooms.{getD-inRoom}
-use Rattle.cells.proofs.Kepts.{byte-behind, all-behind}
+use Rattle.cells.proofs.HeldSymbols.{byte-behind, all-behind}
 use Rattle.text_lines.proofs.atoms.put_modes.Statement.{statement}
 use Rattle.text_lines.proofs.atoms.put_modes.Tie as tie
 

@@ -1,4 +1,4 @@
--- `reader::keyword::kind_of` meets its contract: each test is the definition's. Assumes nothing.
+-- `text_lines::keyword::kind_of` meets its contract: each test is the definition's. Assumes nothing.
 use mathlib.Core.Path.{sym, _∙_}
 use borrow.Author.Needs.{needs}
 use Rattle.text_lines.proofs.keyword.kind_of.Statement.{statement}

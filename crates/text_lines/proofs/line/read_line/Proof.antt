@@ -1,9 +1,9 @@
--- `reader::lines::read_line` meets its contract: each kind is the definition's. Assumes nothing.
+-- `text_lines::line::read_line` meets its contract: each kind is the definition's. Assumes nothing.
 use Prim.Native.Nat.{_+_}
 use mathlib.Core.Path.{sym, _∙_}
 use native.Mathlib.Omega.{arith}
 use lib.ListN.{length}
-use Rattle.cells.specs.Room.{tableOf}
+use Rattle.cells.specs.Room.{textSoFar}
 use Rattle.text_lines.proofs.LineKinds.{first-within, pred-length, func-length, clause-length, query-length, line-pred, line-func, line-clause, line-query, line-other, goes-less}
 use borrow.Author.Needs.{needs}
 use Rattle.text_lines.proofs.line.read_line.Statement.{statement}
@@ -78,7 +78,7 @@ same-length-4 c = search needs
 returns : tie.Need-returns
 returns c =
     let a = c .before .before .before .before .before .before .before .before .before .before .before .before .before .before .before .before .before .before .before .before .before .before .before .args in (
-      λ ns ws h. rw (line-pred (a .line .now) (c .before .before .before .before .before .before .before .before .before .before .before .before .before .before .before .before .before .find .result) (c .before .before .before .before .before .before .before .before .before .before .before .before .before .before .before .before .before .find .ensures) (tableOf (a .c) ns ws) (a .base) (sym (c .before .before .before .before .before .before .before .before .before .before .before .before .before .before .before .kind-of .ensures) ∙ c .before .before .before .before .before .before .before .before .before .before .before .before .before .enum-told .given .1)) (c .before .before .before .before .before .before .before .before .pred-line .ensures .0 ns ws h),
+      λ ns ws h. rw (line-pred (a .line .now) (c .before .before .before .before .before .before .before .before .before .before .before .before .before .before .before .before .before .find .result) (c .before .before .before .before .before .before .before .before .before .before .before .before .before .before .before .before .before .find .ensures) (textSoFar (a .c) ns ws) (a .base) (sym (c .before .before .before .before .before .before .before .before .before .before .before .before .before .before .before .kind-of .ensures) ∙ c .before .before .before .before .before .before .before .before .before .before .before .before .before .enum-told .given .1)) (c .before .before .before .before .before .before .before .before .pred-line .ensures .0 ns ws h),
       goes-less (a .c .words + 1) (a .c .words + 1 + length (a .line .now)) (c .before .before .before .before .before .before .before .before .pred-line .result) (omega arith) (c .before .before .before .before .before .before .before .before .pred-line .ensures .1),
     )
 
@@ -97,7 +97,7 @@ same-length-8 c = search needs
 returns-2 : tie.Need-returns-2
 returns-2 c =
     let a = c .before .before .before .before .before .before .before .before .before .before .before .before .before .before .before .before .before .before .before .before .before .before .before .args in (
-      λ ns ws h. rw (line-func (a .line .now) (c .before .before .before .before .before .before .before .before .before .before .before .before .before .before .before .before .before .find .result) (c .before .before .before .before .before .before .before .before .before .before .before .before .before .before .before .before .before .find .ensures) (tableOf (a .c) ns ws) (a .base) (sym (c .before .before .before .before .before .before .before .before .before .before .before .before .before .before .before .kind-of .ensures) ∙ c .before .before .before .before .before .before .before .before .before .before .before .before .before .enum-told2 .given .1)) (c .before .before .before .before .before .before .before .before .func-line .ensures .0 ns ws h),
+      λ ns ws h. rw (line-func (a .line .now) (c .before .before .before .before .before .before .before .before .before .before .before .before .before .before .before .before .before .find .result) (c .before .before .before .before .before .before .before .before .before .before .before .before .before .before .before .before .before .find .ensures) (textSoFar (a .c) ns ws) (a .base) (sym (c .before .before .before .before .before .before .before .before .before .before .before .before .before .before .before .kind-of .ensures) ∙ c .before .before .before .before .before .before .before .before .before .before .before .before .before .enum-told2 .given .1)) (c .before .before .before .before .before .before .before .before .func-line .ensures .0 ns ws h),
       goes-less (a .c .words + 1) (a .c .words + 1 + length (a .line .now)) (c .before .before .before .before .before .before .before .before .func-line .result) (omega arith) (c .before .before .before .before .before .before .before .before .func-line .ensures .1),
     )
 
@@ -116,7 +116,7 @@ same-length-12 c = search needs
 returns-3 : tie.Need-returns-3
 returns-3 c =
     let a = c .before .before .before .before .before .before .before .before .before .before .before .before .before .before .before .before .before .args in (
-      λ ns ws h. rw (line-clause (a .line .now) (c .before .before .before .before .before .before .before .before .before .before .before .find .result) (c .before .before .before .before .before .before .before .before .before .before .before .find .ensures) (tableOf (a .c) ns ws) (a .base) (sym (c .before .before .before .before .before .before .before .before .before .kind-of .ensures) ∙ c .before .before .before .before .before .before .before .enum-told3 .given .1)) (c .before .before .clause-line .ensures .0 ns ws h (clause-length (a .line .now) (c .before .before .before .before .before .before .before .before .before .before .before .find .result) (c .before .before .before .before .before .before .before .before .before .before .before .find .ensures) (sym (c .before .before .before .before .before .before .before .before .before .kind-of .ensures) ∙ c .before .before .before .before .before .before .before .enum-told3 .given .1))),
+      λ ns ws h. rw (line-clause (a .line .now) (c .before .before .before .before .before .before .before .before .before .before .before .find .result) (c .before .before .before .before .before .before .before .before .before .before .before .find .ensures) (textSoFar (a .c) ns ws) (a .base) (sym (c .before .before .before .before .before .before .before .before .before .kind-of .ensures) ∙ c .before .before .before .before .before .before .before .enum-told3 .given .1)) (c .before .before .clause-line .ensures .0 ns ws h (clause-length (a .line .now) (c .before .before .before .before .before .before .before .before .before .before .before .find .result) (c .before .before .before .before .before .before .before .before .before .before .before .find .ensures) (sym (c .before .before .before .before .before .before .before .before .before .kind-of .ensures) ∙ c .before .before .before .before .before .before .before .enum-told3 .given .1))),
       goes-less (a .c .words + 1 + length (a .line .now)) (a .c .words + 1 + length (a .line .now)) (c .before .before .clause-line .result) (omega arith) (c .before .before .clause-line .ensures .1),
     )
 
@@ -135,14 +135,14 @@ same-length-16 c = search needs
 returns-4 : tie.Need-returns-4
 returns-4 c =
     let a = c .before .before .before .before .before .before .before .before .before .before .before .before .before .before .before .before .before .args in (
-      λ ns ws h. rw (line-query (a .line .now) (c .before .before .before .before .before .before .before .before .before .before .before .find .result) (c .before .before .before .before .before .before .before .before .before .before .before .find .ensures) (tableOf (a .c) ns ws) (a .base) (sym (c .before .before .before .before .before .before .before .before .before .kind-of .ensures) ∙ c .before .before .before .before .before .before .before .enum-told4 .given .1)) (c .before .before .query-line .ensures .0 ns ws h (query-length (a .line .now) (c .before .before .before .before .before .before .before .before .before .before .before .find .result) (c .before .before .before .before .before .before .before .before .before .before .before .find .ensures) (sym (c .before .before .before .before .before .before .before .before .before .kind-of .ensures) ∙ c .before .before .before .before .before .before .before .enum-told4 .given .1))),
+      λ ns ws h. rw (line-query (a .line .now) (c .before .before .before .before .before .before .before .before .before .before .before .find .result) (c .before .before .before .before .before .before .before .before .before .before .before .find .ensures) (textSoFar (a .c) ns ws) (a .base) (sym (c .before .before .before .before .before .before .before .before .before .kind-of .ensures) ∙ c .before .before .before .before .before .before .before .enum-told4 .given .1)) (c .before .before .query-line .ensures .0 ns ws h (query-length (a .line .now) (c .before .before .before .before .before .before .before .before .before .before .before .find .result) (c .before .before .before .before .before .before .before .before .before .before .before .find .ensures) (sym (c .before .before .before .before .before .before .before .before .before .kind-of .ensures) ∙ c .before .before .before .before .before .before .before .enum-told4 .given .1))),
       goes-less 0 (a .c .words + 1 + length (a .line .now)) (c .before .before .query-line .result) (omega arith) (c .before .before .query-line .ensures .1),
     )
 
 returns-5 : tie.Need-returns-5
 returns-5 c =
     let a = c .before .before .before .before .before .before .before .before .before .before .args in
-    (λ ns ws h. rw (line-other (a .line .now) (c .before .before .before .before .find .result) (c .before .before .before .before .find .ensures) (tableOf (a .c) ns ws) (a .base) (sym (c .before .before .kind-of .ensures) ∙ c .enum-told5 .given .1)), tt)
+    (λ ns ws h. rw (line-other (a .line .now) (c .before .before .before .before .find .result) (c .before .before .before .before .find .ensures) (textSoFar (a .c) ns ws) (a .base) (sym (c .before .before .kind-of .ensures) ∙ c .enum-told5 .given .1)), tt)
 
 pub read-line-spec : {M : Type 1} → statement M
 read-line-spec =

@@ -1,4 +1,4 @@
--- `writer::names::each_name` meets its contract. The loop's invariant: the names from `i` on decide, and those before have their marks. Assumes nothing.
+-- `writer::names::each_name` meets its contract. The loop's invariant: the names from `i` on decide, and those before have their hashes. Assumes nothing.
 use Prim.Native.Nat.{_-_, _≤_}
 use mathlib.Core.Path.{_≡_, refl, sym, ap, _∙_}
 use native.Mathlib.Omega.{arith}
@@ -6,18 +6,18 @@ use native.Mathlib.Numerals.{add-one}
 use lib.ListN.{length, length-set}
 use borrow.Author.Needs.{needs}
 use borrow.Author.Tests.{not-true, not-false}
-use Rattle.text.specs.Name.{maxNames, markOf, Marked}
+use Rattle.text.specs.Name.{maxNames, hashOf, Hashed}
 use Rattle.writer.specs.Names.{eachName, namesReply}
-use Rattle.writer.proofs.NameChecks.{marked-more, each-stops, each-goes-on, each-ends}
+use Rattle.writer.proofs.NameChecks.{hashed-more, each-stops, each-goes-on, each-ends}
 use Rattle.writer.proofs.names.each_name.Statement.{statement}
 use Rattle.writer.proofs.names.each_name.Tie as tie
 
 abbrev Inv-loop : tie.InvT-loop
-Inv-loop names predicates symbols marks₀ i₀ marks i =
-    (i ≤ symbols) × (length marks ≡ maxNames) × Marked names marks 0 i × (eachName names predicates 0 symbols ≡ eachName names predicates i (symbols - i))
+Inv-loop names predicates symbols hashes₀ i₀ hashes i =
+    (i ≤ symbols) × (length hashes ≡ maxNames) × Hashed names hashes 0 i × (eachName names predicates 0 symbols ≡ eachName names predicates i (symbols - i))
 
 abbrev μ-loop : tie.MeasureT-loop
-μ-loop names predicates symbols marks₀ i₀ marks i = symbols - i
+μ-loop names predicates symbols hashes₀ i₀ hashes i = symbols - i
 
 loop-holds : tie.Need-loop-holds Inv-loop μ-loop
 loop-holds c =
@@ -43,14 +43,14 @@ returns c =
 name-at-requires : tie.Need-name-at-requires Inv-loop μ-loop
 name-at-requires c κs = record { few = omega arith; within = omega arith }
 
-mark-of-requires : tie.Need-mark-of-requires Inv-loop μ-loop
-mark-of-requires c κs = search needs
+hash-of-requires : tie.Need-hash-of-requires Inv-loop μ-loop
+hash-of-requires c κs = search needs
 
-mul-marks : tie.Need-mul-marks Inv-loop μ-loop
-mul-marks c = omega arith
+mul-hashes : tie.Need-mul-hashes Inv-loop μ-loop
+mul-hashes c = omega arith
 
-array-write-marks : tie.Need-array-write-marks Inv-loop μ-loop
-array-write-marks c = omega arith
+array-write-hashes : tie.Need-array-write-hashes Inv-loop μ-loop
+array-write-hashes c = omega arith
 
 add-i : tie.Need-add-i Inv-loop μ-loop
 add-i c = omega arith
@@ -64,8 +64,8 @@ loop-again c =
     let a = c .before .before .before .before .before .before .before .before .args in
     let i = at-loop .loop .i in (
       omega arith,
-      length-set (at-loop .loop .marks) i (c .mark-of .result) ∙ at-loop .loop .inv .1,
-      marked-more (a .names .now) (at-loop .loop .marks) i (c .mark-of .result) (omega arith) (c .mark-of .ensures ∙ ap markOf (c .before .name-at .ensures)) (at-loop .loop .inv .2),
+      length-set (at-loop .loop .hashes) i (c .hash-of .result) ∙ at-loop .loop .inv .1,
+      hashed-more (a .names .now) (at-loop .loop .hashes) i (c .hash-of .result) (omega arith) (c .hash-of .ensures ∙ ap hashOf (c .before .name-at .ensures)) (at-loop .loop .inv .2),
       rw add-one (at-loop .loop .inv .3 ∙ each-goes-on (a .names .now) (a .predicates) i (a .symbols) (omega arith) (sym (c .before .before .before .is-sound .ensures (at-loop .loop .inv .2)) ∙ not-false _ (c .before .before .if1 .left))),
     )
 
@@ -86,9 +86,9 @@ each-name-spec =
     mul-t10
     returns
     name-at-requires
-    mark-of-requires
-    mul-marks
-    array-write-marks
+    hash-of-requires
+    mul-hashes
+    array-write-hashes
     add-i
     loop-less
     loop-again

@@ -1,4 +1,4 @@
--- `writer::names::is_sound` meets its contract: the names before it in its kind are searched by their marks. Assumes nothing.
+-- `writer::names::is_sound` meets its contract: the names before it in its kind are searched by their hashes. Assumes nothing.
 use Prim.Native.Nat.{ℕ, _-_}
 use mathlib.Core.Path.{sym, ap, _∙_}
 use mathlib.Core.List.{List}

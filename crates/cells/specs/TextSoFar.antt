@@ -12,7 +12,7 @@ abbrev pub next : {A B : Type 0} → Read A → (A → Read B) → Read B
 next (wrong number place) f = wrong number place
 next (right a) f = f a
 
-pub record Table : Type 0 where
+pub record TextSoFar : Type 0 where
   pub predicates : ℕ
   pub functions : ℕ
   pub clauses : ℕ
@@ -21,7 +21,7 @@ pub record Table : Type 0 where
   -- the arities, predicates first, and then the clauses
   pub words : List ℕ
 
-abbrev pub nothing : Table
+abbrev pub nothing : TextSoFar
 nothing = record { predicates = 0; functions = 0; clauses = 0; names = []; words = [] }
 
 -- an encoded program and its names
@@ -31,5 +31,5 @@ pub record Scenario : Type 0 where
 
 -- what a line comes to: more of the text follows, or the query has been read
 pub data Line : Type 0 where
-  more : Table → Line
+  more : TextSoFar → Line
   last : Scenario → Line

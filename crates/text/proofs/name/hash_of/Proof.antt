@@ -1,17 +1,17 @@
--- `text::name::mark_of` meets its contract. The loop's invariant: the bytes from `i` on make of `h` the key's mark. Assumes nothing.
+-- `text::name::hash_of` meets its contract. The loop's invariant: the bytes from `i` on make of `h` the key's hash. Assumes nothing.
 use Prim.Native.Nat.{_-_, _≤_, _<_}
 use mathlib.Core.Path.{_≡_, refl, sym, _∙_}
 use native.Mathlib.Omega.{arith}
 use native.Mathlib.Numerals.{add-one}
 use borrow.Author.Needs.{needs}
 use lib.ListN.{length, drop}
-use Rattle.text.specs.Name.{markOf, markFrom, markBelow}
-use Rattle.text.proofs.Names.{markFrom-step, markFrom-ends}
-use Rattle.text.proofs.name.mark_of.Statement.{statement}
-use Rattle.text.proofs.name.mark_of.Tie as tie
+use Rattle.text.specs.Name.{hashOf, hashFrom, hashBelow}
+use Rattle.text.proofs.Names.{hashFrom-step, hashFrom-ends}
+use Rattle.text.proofs.name.hash_of.Statement.{statement}
+use Rattle.text.proofs.name.hash_of.Tie as tie
 
 abbrev Inv-loop : tie.InvT-loop
-Inv-loop key h₀ i₀ h i = (i ≤ length key) × (h < markBelow) × (markFrom h (drop i key) ≡ markOf key)
+Inv-loop key h₀ i₀ h i = (i ≤ length key) × (h < hashBelow) × (hashFrom h (drop i key) ≡ hashOf key)
 
 abbrev μ-loop : tie.MeasureT-loop
 μ-loop key h₀ i₀ h i = length key - i
@@ -42,16 +42,16 @@ loop-again c =
     let l = c .before .before .before in
     let key = l .before .before .args .key .now in
     let h : l .loop .i < length key = omega arith in
-    (omega arith, omega arith, rw (add-one, c .wide .ensures .0) (sym (markFrom-step (l .loop .h) key (l .loop .i) h) ∙ l .loop .inv .2))
+    (omega arith, omega arith, rw (add-one, c .wide .ensures .0) (sym (hashFrom-step (l .loop .h) key (l .loop .i) h) ∙ l .loop .inv .2))
 
 returns : tie.Need-returns Inv-loop μ-loop
 returns c =
     let l = c .before in
     let key = l .before .before .args .key .now in
-    sym (markFrom-ends (l .loop .h) key (l .loop .i) (omega arith)) ∙ l .loop .inv .2
+    sym (hashFrom-ends (l .loop .h) key (l .loop .i) (omega arith)) ∙ l .loop .inv .2
 
-pub mark-of-spec : {M : Type 1} → statement M
-mark-of-spec =
+pub hash-of-spec : {M : Type 1} → statement M
+hash-of-spec =
     tie.close
     (tie.spec
     Inv-loop
