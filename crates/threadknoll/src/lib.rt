@@ -1,22 +1,21 @@
 // The library for the engine: the public functions under C names. `include/threadknoll.h` says in plain words what each promises.
 use analysis::analyse::analyse;
 use lister::list::list;
+use program::limits::MAX_BYTES;
 use program::limits::MAX_DECLARED;
 use program::limits::MAX_ROWS;
 use program::limits::MAX_WORDS;
-use reader::read::MAX_BYTES;
 use reader::read::read;
 use text::name::NAME_BYTES;
 use writer::write::write;
 ghost use mathlib.Core.Path.{_≡_};
 ghost use Prim.Native.Nat.{_*_};
 ghost use lib.ListN.{length};
-ghost use Rattle.program.specs.Limits.{maxWords, maxRows};
+ghost use Rattle.program.specs.Limits.{maxWords, maxBytes, maxRows};
 ghost use Rattle.text.specs.Name.{nameBytes, maxNames};
 ghost use Rattle.table.specs.Table.{Promise};
-ghost use Rattle.reader.specs.Read.{maxBytes};
-ghost use Rattle.reader.specs.Read as reads;
-ghost use Rattle.writer.specs.Write as writes;
+ghost use Rattle.reader.specs.Read.{Reads};
+ghost use Rattle.writer.specs.Write.{Writes};
 ghost use Rattle.lister.specs.ListingPromise.{ListingPromise};
 ghost use Rattle.threadknoll.specs.Told.{told};
 
@@ -61,9 +60,7 @@ pub extern "C" fn threadknoll_read(
     place: &mut usize,
     count: &mut usize,
 ) -> u16
-    ensures reply { λ number. ⌜ told number (now (place .exit)) (now (count .exit)) ≡ reads.replyOf (reads.answerOf (now (text .entry)) (length (now (words .entry))) (length (now (names .entry)))) ⌝ }
-    ensures of_words { λ _. ⌜ now (words .exit) ≡ reads.wordsIn (length (now (words .entry))) (reads.answerOf (now (text .entry)) (length (now (words .entry))) (length (now (names .entry)))) ⌝ }
-    ensures of_names { λ _. ⌜ now (names .exit) ≡ reads.namesIn (length (now (names .entry))) (reads.answerOf (now (text .entry)) (length (now (words .entry))) (length (now (names .entry)))) ⌝ }
+    ensures { λ number. ⌜ Reads (now (text .entry)) (length (now (words .entry))) (length (now (names .entry))) (told number (now (place .exit)) (now (count .exit))) (now (words .exit), now (names .exit)) ⌝ }
 {
     let reply = read(text, words, names);
     *place = reply.place;
@@ -80,8 +77,7 @@ pub extern "C" fn threadknoll_write(
     place: &mut usize,
     count: &mut usize,
 ) -> u16
-    ensures reply { λ number. ⌜ told number (now (place .exit)) (now (count .exit)) ≡ writes.replyOf (writes.answerOf (now (words .entry)) (now (names .entry)) (length (now (text .entry)))) ⌝ }
-    ensures of_text { λ _. ⌜ now (text .exit) ≡ writes.textIn (length (now (text .entry))) (writes.answerOf (now (words .entry)) (now (names .entry)) (length (now (text .entry)))) ⌝ }
+    ensures { λ number. ⌜ Writes (now (words .entry)) (now (names .entry)) (length (now (text .entry))) (told number (now (place .exit)) (now (count .exit))) (now (text .exit)) ⌝ }
 {
     let reply = write(words, names, text);
     *place = reply.place;
