@@ -10,19 +10,15 @@ use Rattle.program.specs.declared.reply.Reply.{Reply}
 use Rattle.table.specs.Analysis.{Analysis, roomOf, Exceeds}
 use Rattle.table.specs.Table.{modeAnalysis, Entry, roomIn, TableOf, MoreThan, Promise}
 use Rattle.text.specs.Name.{nameBytes}
-use Rattle.cells.specs.Table.{Read, right, Scenario}
+use Rattle.cells.specs.TextSoFar.{right, Scenario}
 use Rattle.reader.specs.Read as reads
+-- `read`: of a text, with room for so many words and so many bytes of names; it leaves words and names
+pub use Rattle.reader.specs.Read.{readLeft, Reads}
 use Rattle.writer.specs.Write as writes
+-- `write`: of words and names, with room for so many bytes; it leaves a text
+pub use Rattle.writer.specs.Write.{Writes}
 use Rattle.lister.specs.Listing.{listingOf}
 use Rattle.lister.specs.ListingPromise.{namesFor, ListingPromise}
-
--- `read`: of a text, with room for so many words and so many bytes of names; it leaves words and names
-abbrev pub readLeft : ℕ → ℕ → Read Scenario → List ℕ × List ℕ
-readLeft words names answer = (reads.wordsIn words answer, reads.namesIn names answer)
-
-abbrev pub Reads : List ℕ → ℕ → ℕ → Reply → List ℕ × List ℕ → Type 0
-Reads text words names reply left =
-    (reply ≡ reads.replyOf (reads.answerOf text words names)) × (left ≡ readLeft words names (reads.answerOf text words names))
 
 -- the words that were read, as many as the reply counts, and their names, 16 bytes for each symbol that the words declare
 abbrev pub wordsRead : Reply → List ℕ × List ℕ → List ℕ
@@ -30,11 +26,6 @@ wordsRead reply left = take (reply .count) (left .0)
 
 abbrev pub namesRead : Reply → List ℕ × List ℕ → List ℕ
 namesRead reply left = take ((getD (wordsRead reply left) 0 0 + getD (wordsRead reply left) 1 0) * nameBytes) (left .1)
-
--- `write`: of words and names, with room for so many bytes; it leaves a text
-abbrev pub Writes : List ℕ → List ℕ → ℕ → Reply → List ℕ → Type 0
-Writes words names room reply left =
-    (reply ≡ writes.replyOf (writes.answerOf words names room)) × (left ≡ writes.textIn room (writes.answerOf words names room))
 
 -- the text that was written, as many bytes as the reply counts
 abbrev pub textWritten : Reply → List ℕ → List ℕ
