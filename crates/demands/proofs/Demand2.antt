@@ -17,7 +17,7 @@ use Rattle.program.proofs.FoundLaws.{sound-same}
 use Rattle.table.proofs.Promise.{modes-computes}
 use Rattle.runs.specs.TableRows.{StandsIn}
 use Rattle.runs.proofs.TableRuns.{promise-trusted}
-use Rattle.cells.specs.Table.{right, Scenario}
+use Rattle.cells.specs.TextSoFar.{right, Scenario}
 use Rattle.reader.specs.Read.{readOf}
 use Rattle.writer.specs.Write.{textOf, writeOf}
 use Rattle.lister.specs.ListingPromise.{namesFor}

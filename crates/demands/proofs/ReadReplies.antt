@@ -11,7 +11,7 @@ use borrow.Author.Tests.{ltb-true, ltb-false}
 use Rattle.program.specs.Reply.{accepted, noRoom, withdrawn}
 use Rattle.text.specs.Room.{inRoom}
 use Rattle.text.proofs.Rooms.{inRoom-empty}
-use Rattle.cells.specs.Table.{Read, wrong, right, next, Scenario}
+use Rattle.cells.specs.TextSoFar.{Read, wrong, right, next, Scenario}
 use Rattle.reader.specs.Read as reads
 use Rattle.cells.proofs.Readings.{wrong-or-right}
 use Rattle.writer.specs.Write as writes

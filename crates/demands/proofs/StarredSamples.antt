@@ -22,7 +22,7 @@ use Rattle.table.proofs.Samples.{legs, late}
 use Rattle.table.proofs.Promise.{more-than-length, tableAt, computed-table}
 use Rattle.table.proofs.TableSamples.{legs-entries, legs-table, late-entries, late-table}
 use Rattle.text.specs.Room.{inRoom}
-use Rattle.cells.specs.Table.{right}
+use Rattle.cells.specs.TextSoFar.{right}
 use Rattle.reader.specs.Read.{readOf}
 use Rattle.reader.proofs.Hands.{front-is}
 use Rattle.lister.specs.ListingPromise.{namesFor, listed as by-listing}

@@ -13,7 +13,7 @@ use Rattle.program.proofs.FaultNumbers.{FaultNumber, fault-number}
 use Rattle.table.specs.Table.{modeAnalysis, Entry, roomIn, TableOf, MoreThan}
 use Rattle.program.proofs.FoundLaws.{fault-or-sound, sound-same}
 use Rattle.table.proofs.Promise.{modes-computes, table-once, no-room-more, never-withdrawn}
-use Rattle.cells.specs.Table.{right}
+use Rattle.cells.specs.TextSoFar.{right}
 use Rattle.cells.proofs.Readings.{wrong-or-right}
 use Rattle.lister.specs.Listing.{listingOf}
 use Rattle.lister.specs.ListingPromise.{namesFor, Refused, ListingPromise, faulty, misnamed, unlisted, over, listed}

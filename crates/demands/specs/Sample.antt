@@ -9,7 +9,7 @@ use Rattle.program.specs.Limits.{rowSize}
 use Rattle.table.specs.Rules.{Row}
 use Rattle.table.specs.Table.{Entry, tableWords, Promise}
 use Rattle.text.specs.Room.{inRoom}
-use Rattle.cells.specs.Table.{wrong, right}
+use Rattle.cells.specs.TextSoFar.{wrong, right}
 use Rattle.reader.specs.Read.{readOf}
 use Rattle.lister.specs.ListingPromise.{ListingPromise}
 use Rattle.printing.specs.Printed.{Printed}

@@ -16,7 +16,7 @@ use Rattle.table.proofs.Promise.{table-once, promise-unique, promise-met}
 use Rattle.text.specs.Room.{inRoom}
 use Rattle.writer.specs.Names.{namesReply}
 use Rattle.writer.proofs.Answers.{names-right}
-use Rattle.cells.specs.Table.{Read, wrong, right}
+use Rattle.cells.specs.TextSoFar.{Read, wrong, right}
 use Rattle.cells.proofs.Readings.{wrong-or-right}
 use Rattle.lister.specs.Listing.{listingOf}
 use Rattle.lister.specs.ListingPromise.{namesFor, Refused, Rows, ListingPromise, faulty, misnamed, unlisted, over, listed}

@@ -19,7 +19,7 @@ use Rattle.program.proofs.FoundLaws.{fault-or-sound, sound-same}
 use Rattle.table.proofs.Promise.{table-once, accepted-listed, refused-zeros}
 use Rattle.table.proofs.Regular.{at-regular}
 use Rattle.text.specs.Name.{maxNames}
-use Rattle.cells.specs.Table.{Read, wrong, right}
+use Rattle.cells.specs.TextSoFar.{Read, wrong, right}
 use Rattle.writer.specs.Names.{namesOf, namesReply}
 use Rattle.writer.proofs.Answers.{names-right}
 use Rattle.lister.specs.ListingPromise.{namesFor, Rows}

@@ -9,7 +9,7 @@ use Rattle.directory.specs.Directory.{Directory}
 use Rattle.table.specs.Table.{Entry, tableWords}
 use Rattle.table.specs.Keys.{Regular}
 use Rattle.steps.specs.Situation.{Setting}
-use Rattle.cells.specs.Table.{right}
+use Rattle.cells.specs.TextSoFar.{right}
 use Rattle.lister.specs.ListingPromise.{namesFor, Rows}
 
 -- the rows of an accepted program in the table, and its directory

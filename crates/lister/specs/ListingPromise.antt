@@ -9,7 +9,7 @@ use Rattle.program.specs.Reply.{accepted, noRoom, refused, done}
 use Rattle.program.specs.declared.reply.Reply.{Reply}
 use Rattle.table.specs.Table.{Entry, TableOf, Promise}
 use Rattle.text.specs.Room.{inRoom}
-use Rattle.cells.specs.Table.{Read, wrong, right}
+use Rattle.cells.specs.TextSoFar.{Read, wrong, right}
 use Rattle.writer.specs.Names.{namesOf}
 use Rattle.lister.specs.Listing.{listingOf}
 

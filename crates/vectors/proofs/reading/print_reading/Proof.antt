@@ -3,7 +3,7 @@ use mathlib.Core.Path.{sym}
 use native.Mathlib.Omega.{arith}
 use lib.Seq.{length-take-le}
 use borrow.Author.Needs.{needs}
-use Rattle.printing.proofs.ReadRooms.{accepted-kept}
+use Rattle.printing.proofs.ReadRooms.{accepted-left}
 use Rattle.vectors.proofs.reading.print_reading.Statement.{statement}
 use Rattle.vectors.proofs.reading.print_reading.Tie as tie
 
@@ -25,19 +25,19 @@ returns c = search needs
 array-share-prefix-words : tie.Need-array-share-prefix-words
 array-share-prefix-words c =
     let r = c .before .before .before .before .read in
-    let k = accepted-kept (c .before .before .before .before .before .before .before .before .args .text .now) (r .ensures .0) (r .ensures .1 .0) (r .ensures .1 .1) (c .if1 .left) in
+    let k = accepted-left (c .before .before .before .before .before .before .before .before .args .text .now) (r .ensures) (c .if1 .left) in
     omega (arith, k .words-fit, r .kept .1 .0)
 
 slice-aggregate-program : tie.Need-slice-aggregate-program
 slice-aggregate-program c =
     let r = c .before .before .before .before .before .read in
-    let k = accepted-kept (c .before .before .before .before .before .before .before .before .before .args .text .now) (r .ensures .0) (r .ensures .1 .0) (r .ensures .1 .1) (c .before .if1 .left) in
+    let k = accepted-left (c .before .before .before .before .before .before .before .before .before .args .text .now) (r .ensures) (c .before .if1 .left) in
     sym (length-take-le (r .result .count) (r .last .1 .0) (omega (arith, k .words-fit, r .kept .1 .0)))
 
 shared-slice-read-wide : tie.Need-shared-slice-read-wide
 shared-slice-read-wide c =
     let r = c .before .before .before .before .before .before .read in
-    let k = accepted-kept (c .before .before .before .before .before .before .before .before .before .before .args .text .now) (r .ensures .0) (r .ensures .1 .0) (r .ensures .1 .1) (c .before .before .if1 .left) in
+    let k = accepted-left (c .before .before .before .before .before .before .before .before .before .before .args .text .now) (r .ensures) (c .before .before .if1 .left) in
     omega (arith, k .counts-there, length-take-le (r .result .count) (r .last .1 .0) (omega (arith, k .words-fit, r .kept .1 .0)))
 
 wide-requires : tie.Need-wide-requires
@@ -46,7 +46,7 @@ wide-requires c κs = search needs
 shared-slice-read-wide-2 : tie.Need-shared-slice-read-wide-2
 shared-slice-read-wide-2 c =
     let r = c .before .before .before .before .before .before .before .before .read in
-    let k = accepted-kept (c .before .before .before .before .before .before .before .before .before .before .before .before .args .text .now) (r .ensures .0) (r .ensures .1 .0) (r .ensures .1 .1) (c .before .before .before .before .if1 .left) in
+    let k = accepted-left (c .before .before .before .before .before .before .before .before .before .before .before .before .args .text .now) (r .ensures) (c .before .before .before .before .if1 .left) in
     omega (arith, k .counts-there, length-take-le (r .result .count) (r .last .1 .0) (omega (arith, k .words-fit, r .kept .1 .0)))
 
 wide-requires-2 : tie.Need-wide-requires-2
@@ -61,13 +61,13 @@ mul-size c = search needs
 array-share-prefix-names : tie.Need-array-share-prefix-names
 array-share-prefix-names c =
     let r = c .before .before .before .before .before .before .before .before .before .read in
-    let k = accepted-kept (c .before .before .before .before .before .before .before .before .before .before .before .before .before .args .text .now) (r .ensures .0) (r .ensures .1 .0) (r .ensures .1 .1) (c .before .before .before .before .before .if1 .left) in
+    let k = accepted-left (c .before .before .before .before .before .before .before .before .before .before .before .before .before .args .text .now) (r .ensures) (c .before .before .before .before .before .if1 .left) in
     omega (arith, k .names-fit, c .before .before .wide .ensures .0, c .wide2 .ensures .0, r .kept .1 .1 .0)
 
 slice-aggregate-print-accepted : tie.Need-slice-aggregate-print-accepted
 slice-aggregate-print-accepted c =
     let r = c .before .before .before .before .before .before .before .before .before .before .read in
-    let k = accepted-kept (c .before .before .before .before .before .before .before .before .before .before .before .before .before .before .args .text .now) (r .ensures .0) (r .ensures .1 .0) (r .ensures .1 .1) (c .before .before .before .before .before .before .if1 .left) in
+    let k = accepted-left (c .before .before .before .before .before .before .before .before .before .before .before .before .before .before .args .text .now) (r .ensures) (c .before .before .before .before .before .before .if1 .left) in
     sym (length-take-le _ (r .last .1 .1 .0) (omega (arith, k .names-fit, c .before .before .before .wide .ensures .0, c .before .wide2 .ensures .0, r .kept .1 .1 .0)))
 
 print-accepted-requires : tie.Need-print-accepted-requires
