@@ -10,3 +10,4 @@ pub mod LeastTables
 pub mod RoundTrips
 pub mod StarredSamples
 pub mod WrongTables
+pub mod ListingRoom
