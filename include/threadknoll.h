@@ -112,7 +112,8 @@ uint16_t threadknoll_analyse(const uint16_t *words, size_t words_length,
 
 /*
  * The mode table of an encoded program with its names, as threadknoll_analyse leaves it, and its listing, as `modes` prints it; the count is
- * in bytes of the listing. Names are checked as by threadknoll_write. Room for rows comes before room for bytes; where either is too small, both buffers are zeros.
+ * in bytes of the listing. Names are checked as by threadknoll_write. Room for rows comes before room for bytes; where either is too small,
+ * both buffers are zeros. A room of THREADKNOLL_MAX_LISTING bytes is always enough.
  */
 uint16_t threadknoll_list(const uint16_t *words, size_t words_length,
                           const uint8_t *names, size_t names_length,
@@ -120,7 +121,7 @@ uint16_t threadknoll_list(const uint16_t *words, size_t words_length,
                           uint8_t *listing, size_t listing_length,
                           size_t *place, size_t *count);
 
-/* The limits, as the library has them: they are the constants above. */
+/* Four of the limits, as the library has them: they are the constants above. */
 size_t threadknoll_max_text(void);
 size_t threadknoll_max_words(void);
 size_t threadknoll_max_names(void);
