@@ -1,6 +1,6 @@
 -- Demand 1: "Every input gets a reply. Any scenario text, any encoded program; the caller checks nothing first. A refusal gives a number and a place,
 -- and all lent output is then zeros. 'No room' exactly when the complete result is larger than the room." `Replies` says this of one input; here it is said of all.
--- None of the four functions has a `requires`; `Promises` has what their `ensures` say: hold it against `crates/threadknoll/src/lib.rt`.
+-- None of the four functions has a `requires`; their `ensures` and `Promises` cite the same definitions: `Reads`, `Writes`, `Promise`, `ListingPromise`.
 use Prim.Native.Nat.{ℕ}
 use mathlib.Core.List.{List}
 use lib.ListN.{replicate}

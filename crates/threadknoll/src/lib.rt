@@ -5,6 +5,7 @@ use program::limits::MAX_BYTES;
 use program::limits::MAX_DECLARED;
 use program::limits::MAX_ROWS;
 use program::limits::MAX_WORDS;
+use program::reply::Reply;
 use reader::read::read;
 use text::name::NAME_BYTES;
 use writer::write::write;
@@ -18,6 +19,15 @@ ghost use Rattle.reader.specs.Read.{Reads};
 ghost use Rattle.writer.specs.Write.{Writes};
 ghost use Rattle.lister.specs.ListingPromise.{ListingPromise};
 ghost use Rattle.threadknoll.specs.Told.{told};
+
+// A reply as C is told it.
+fn tell(reply: Reply, place: &mut usize, count: &mut usize) -> u16
+    ensures { λ number. ⌜ told number (now (place .exit)) (now (count .exit)) ≡ reply ⌝ }
+{
+    *place = reply.place;
+    *count = reply.count;
+    reply.number
+}
 
 // "At most 40,960 bytes."
 #[no_mangle]
@@ -62,10 +72,7 @@ pub extern "C" fn threadknoll_read(
 ) -> u16
     ensures { λ number. ⌜ Reads (now (text .entry)) (length (now (words .entry))) (length (now (names .entry))) (told number (now (place .exit)) (now (count .exit))) (now (words .exit), now (names .exit)) ⌝ }
 {
-    let reply = read(text, words, names);
-    *place = reply.place;
-    *count = reply.count;
-    reply.number
+    tell(read(text, words, names), place, count)
 }
 
 // From an encoded program with its names back to the text.
@@ -79,10 +86,7 @@ pub extern "C" fn threadknoll_write(
 ) -> u16
     ensures { λ number. ⌜ Writes (now (words .entry)) (now (names .entry)) (length (now (text .entry))) (told number (now (place .exit)) (now (count .exit))) (now (text .exit)) ⌝ }
 {
-    let reply = write(words, names, text);
-    *place = reply.place;
-    *count = reply.count;
-    reply.number
+    tell(write(words, names, text), place, count)
 }
 
 // The mode table of an encoded program.
@@ -95,10 +99,7 @@ pub extern "C" fn threadknoll_analyse(
 ) -> u16
     ensures { λ number. ⌜ Promise (now (words .entry)) (length (now (table .entry))) (told number (now (place .exit)) (now (count .exit))) (now (table .exit)) ⌝ }
 {
-    let reply = analyse(words, table);
-    *place = reply.place;
-    *count = reply.count;
-    reply.number
+    tell(analyse(words, table), place, count)
 }
 
 // The mode table of an encoded program with its names, and its listing.
@@ -113,8 +114,5 @@ pub extern "C" fn threadknoll_list(
 ) -> u16
     ensures { λ number. ⌜ ListingPromise (now (words .entry)) (now (names .entry)) (length (now (table .entry))) (length (now (out .entry))) (told number (now (place .exit)) (now (count .exit))) (now (table .exit)) (now (out .exit)) ⌝ }
 {
-    let reply = list(words, names, table, out);
-    *place = reply.place;
-    *count = reply.count;
-    reply.number
+    tell(list(words, names, table, out), place, count)
 }
