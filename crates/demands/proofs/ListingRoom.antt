@@ -19,9 +19,10 @@ use Rattle.directory.proofs.Cuts.{each-nth}
 use Rattle.directory.proofs.ShapeAtoms.{shape-atom, shape-length}
 use Rattle.directory.proofs.PlacedLaws.{bodies-atoms}
 use Rattle.table.specs.Rules.{Row, call, cont, solution}
-use Rattle.table.specs.Table.{Entry, roomIn}
+use Rattle.table.specs.Table.{modeAnalysis, Entry, roomIn}
 use Rattle.table.specs.Keys.{Regular, regular-call, regular-cont, regular-solution}
-use Rattle.table.proofs.Promise.{round-below, more-than-length, no-room-more}
+use Rattle.table.proofs.Tables.{rounds-below}
+use Rattle.table.proofs.Promise.{modes-computes, more-than-length, no-room-more}
 use Rattle.table.proofs.ShapeVariables.{within-few, shape-atom as atom-of-shape}
 use Rattle.text.specs.Token.{digit0}
 use Rattle.text.specs.Decimal.{decimal}
@@ -30,7 +31,7 @@ use Rattle.written_lines.specs.Tokens.{atomTokens, behindTabs, line}
 use Rattle.listing_lines.specs.Letters.{occursIn, isListed, lettersBelow, orNone, lettersOf, letter}
 use Rattle.listing_lines.specs.Lines.{shapeWord, callWord, contWord, solWord, shapeLine, shapeAt, clauseAt, rowLine, dot}
 use Rattle.lister.specs.Listing.{modesWord, endWord, version, shapeLines, rowLines, listingOf}
-use Rattle.lister.specs.Listed.{Rows}
+use Rattle.lister.specs.ListingPromise.{Rows}
 use Rattle.lister.proofs.Replies.{rows-regular}
 use Rattle.round_trips.proofs.Printed.{tabs-length, line-length}
 use Rattle.round_trips.proofs.ReadNames.{Sound-names}
@@ -232,7 +233,7 @@ listing-short words names size table p entries w =
       within-few p within .shapes-few,
       shapes-cells p within,
       shapes-bound names (p .predicates) (p .functions) named 0 (shapes p) (omega (arith, within-few p within .shapes-few)) (shape-sound p within),
-      rows-bound p within entries (λ e m. (omega (arith, few, round-below p entries (w .rows) e m), rows-regular w e m)),
+      rows-bound p within entries (λ e m. (omega (arith, few, rounds-below (modeAnalysis p) (modes-computes p) entries (w .rows) e m), rows-regular w e m)),
       line-length endWord (decimal (length entries) ∷ []),
       field-length (decimal (length entries)) [],
       four-digits (length entries) (omega (arith, few)),

@@ -13,9 +13,11 @@ use Rattle.program.specs.Faults.{clause, goal, written, declared, whole, fault,
 use Rattle.program.specs.Reply.{badVariable, longAtom, done}
 use Rattle.program.proofs.ListLaws.{listed-decided}
 use Rattle.program.proofs.ShapeLaws.{member-decided}
+use Rattle.marks.specs.Modes.{modes}
 use Rattle.table.specs.Rules.{call}
 use Rattle.table.specs.Promise.{listed, full, faulty as by-fault}
 use Rattle.table.specs.Table.{roomIn}
+use Rattle.table.proofs.Computed.{rowsAt}
 use Rattle.table.proofs.ModesComputed.{modes-lists}
 use Rattle.table.proofs.Ordering.{sort}
 use Rattle.table.proofs.Samples.{legs, late}
@@ -113,7 +115,7 @@ itself-sound : faults itself-words ≡ sound itself
 unfolding bounded several terms atom atoms clause goal written declared whole faults
 itself-sound = refl
 
-itself-round-1 : rows itself 1 ≡ rows itself 0
+itself-round-1 : rowsAt modes modes-lists itself 0 1 ≡ rowsAt modes modes-lists itself 0 0
 unfolding ℕ-discrete modes-lists listed-decided
 itself-round-1 = refl
 
@@ -129,7 +131,7 @@ module _ (predicates functions : List ℕ) (atom′ : Term) where
   abbrev alone : Program
   alone = record { predicates = predicates; functions = functions; clauses = []; goal = atom′; ground = 0 }
 
-  alone-round-1 : rows alone 1 ≡ rows alone 0
+  alone-round-1 : rowsAt modes modes-lists alone 0 1 ≡ rowsAt modes modes-lists alone 0 0
   unfolding ℕ-discrete modes-lists listed-decided
   alone-round-1 = refl
 

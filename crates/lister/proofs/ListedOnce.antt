@@ -53,7 +53,7 @@ module _ (words names : List ℕ) (size room : ℕ) where
       → (r ≡ r′) × (t ≡ t′) × (o ≡ o′)
   listed-unique r r′ t t′ o o′ (faulty n q f z) (faulty n′ q′ f′ z′) = refused-once z (same-fault (sym f ∙ f′) z′)
     where
-      same-fault : fault n q ≡ fault n′ q′ → Refused size room n′ q′ r′ t′ o′ → Refused size room n q r′ t′ o′
+      same-fault : _≡_ {A = Found Program} (fault n q) (fault n′ q′) → Refused size room n′ q′ r′ t′ o′ → Refused size room n q r′ t′ o′
       same-fault e z = let a : n′ ≡ n = cc in let b : q′ ≡ q = cc in rw (a, b) at z
   listed-unique r r′ t t′ o o′ (faulty n q f z) (misnamed p n′ q′ f′ w z′) = absurd (fault-or-sound _ f f′)
   listed-unique r r′ t t′ o o′ (faulty n q f z) (unlisted p n′ q′ ze f′ w a d z′) = absurd (fault-or-sound _ f f′)
