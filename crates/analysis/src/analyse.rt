@@ -10,6 +10,7 @@ use rows::row::MAX_ROWS;
 use rows::row::ROW_SIZE;
 use rows::zeros::zero;
 use shaping::directory;
+use steps::unifiers::UNIFIER_BYTES;
 ghost use mathlib.Core.Path.{_≡_};
 ghost use lib.ListN.{length};
 ghost use Rattle.program.specs.Program.{Program};
@@ -18,9 +19,6 @@ ghost use Rattle.directory.specs.Layout.{dirWords};
 ghost use Rattle.directory.specs.Directory.{Directory};
 ghost use Rattle.table.specs.Table.{roomIn, Promise};
 ghost use Rattle.analysis.specs.Finished.{FinishAsked, InTable};
-
-// The bytes in which a clause without a body notes what comes of its head and the shapes of calls to it: as many as those of any program can take.
-const UNIFIER_BYTES: usize = 10400;
 
 // "The room in rows is the length over five, rounded down, but at most 4,096."
 fn room_in(size: usize) -> usize

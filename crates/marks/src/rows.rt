@@ -1,7 +1,7 @@
 // What the rules do with the masks of rows: put together, kept to a list, taken to a shape's numbering and back.
 use crate::bits::mark;
 use crate::bits::marks;
-ghost use mathlib.Core.Path.{_≡_};
+use terms::walk::wide_byte;
 ghost use Prim.Native.Nat.{ℕ, _≤_, _<_};
 ghost use lib.ListN.{getD};
 ghost use Rattle.terms.specs.Cells.{variables};
@@ -22,13 +22,6 @@ pub fn kept(list: u16, mask: u16) -> u16
     list & mask
 }
 
-// A variable as an index.
-fn wide_variable(v: u8) -> usize
-    ensures { λ r. ⌜ r ≡ v ⌝ }
-{
-    v as usize
-}
-
 // A clause's marks in the numbering of a shape, whose variable k is the clause's variable order[k].
 pub fn renumber(order: &[u8; 16], count: usize, mask: u16) -> u16
     requires { ⌜ (count ≤ variables) × ((k : ℕ) → k < count → getD (now order) k 0 < variables) ⌝ }
@@ -37,7 +30,7 @@ pub fn renumber(order: &[u8; 16], count: usize, mask: u16) -> u16
     let mut renumbered = 0u16;
     let mut k = 0;
     while k < count {
-        if marks(mask, wide_variable(order[k])) {
+        if marks(mask, wide_byte(order[k])) {
             renumbered = renumbered | mark(k);
         }
         k += 1;
@@ -54,7 +47,7 @@ pub fn restore(order: &[u8; 16], count: usize, mask: u16) -> u16
     let mut k = 0;
     while k < count {
         if marks(mask, k) {
-            restored = restored | mark(wide_variable(order[k]));
+            restored = restored | mark(wide_byte(order[k]));
         }
         k += 1;
     }

@@ -11,6 +11,4 @@ pub mod Emitting
 pub mod BodyAtoms
 pub mod ShapeLinks
 pub mod MarkedSets
-pub mod NoteWords
-pub mod CodedPlaces
 pub mod NotedUnifiers

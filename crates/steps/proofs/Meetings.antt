@@ -18,7 +18,7 @@ use Rattle.program.proofs.ProgramWords.{sound-within}
 use Rattle.program.proofs.Nths.{nth-below}
 use Rattle.directory.specs.Layout.{functionsStart, predicatesStart, shapeStart, shapeCells}
 use Rattle.directory.specs.Directory.{ShapeAt, predicateOf}
-use Rattle.steps.specs.Parts.{shapeRun, ShapeIn, functionsRun, FunctionsIn}
+use Rattle.steps.specs.Parts.{shapeRun, ShapeIn, functionsRun}
 use Rattle.steps.specs.Situation.{Setting, Meeting, Unifying, Met, MetStore, MetBindings}
 use Rattle.steps.proofs.ShapeAtoms.{shape-is-atom}
 
@@ -57,10 +57,6 @@ module _ {words dir : List ℕ} {shape start cells : ℕ} (m : Meeting words dir
         ordered = rw e (shape-at .ordered);
         within = rw e (omega (arith, shape-at .cells-most, m .setting .directory .size));
       }
-
-  pub functions-in : FunctionsIn words dir
-  functions-in =
-      let d = m .setting .directory in record { size = d .size; ordered = d .functions-in .1; within = d .functions-in .2 }
 
   shape-run : shapeRun dir shape ≡ enc (m .S)
   shape-run =

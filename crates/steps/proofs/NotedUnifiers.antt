@@ -4,14 +4,14 @@ use native.Mathlib.Omega.{arith}
 use mathlib.Core.Path.{_≡_, refl, sym, subst, _∙_}
 use mathlib.Core.List.{List}
 use lib.ListN.{length, getD}
-use Rattle.terms.specs.Mask.{Marks}
 use Rattle.terms.specs.Unifier.{Apart}
+use Rattle.terms.specs.Store.{allVariables}
+use Rattle.terms.specs.Bytes.{wordAt, BytesPut, WordPut}
+use Rattle.terms.specs.Noted.{NotedAt, notedEnd, BindingsPut, BindingsTaken}
+use Rattle.terms.proofs.BytesPut.{word-stays, put-then}
+use Rattle.terms.proofs.NotedBindings.{noted-stays, end-stays, taken-back}
 use Rattle.steps.specs.Situation.{Meeting, MetBindings}
-use Rattle.steps.specs.NoteWords.{wordAt, setAt, BytesPut, WordPut, SetPut}
-use Rattle.steps.specs.NotedPlaces.{allVariables, IsBound, countOf, Coded, PlacesPut}
-use Rattle.steps.specs.Unifiers.{NotesIn, none, apart, unified, takenAt, notedAt, firstNote, Room, nextAt, Notes, NextWord, nextEnd, NextWithin, PlacesTaken}
-use Rattle.steps.proofs.NoteWords.{word-stays, set-stays, put-then}
-use Rattle.steps.proofs.CodedPlaces.{coded-stays, coded-once, put-coded, unified-as}
+use Rattle.steps.specs.Unifiers.{NotesIn, none, apart, unified, takenAt, notedAt, firstNote, Room, nextAt, Notes, NextWord, nextEnd, NextWithin, NextTaken}
 
 -- bytes whose first two words are 0 note nothing
 pub no-notes : (words dir : List ℕ) (start cells : ℕ) (unifiers : List ℕ) → Room unifiers → wordAt unifiers takenAt ≡ 0 → wordAt unifiers notedAt ≡ 0
@@ -33,16 +33,13 @@ notes-forgotten {before} {unifiers} {after} room p q words dir start cells =
     (q .is)
 
 -- the bytes of a note of bindings
-module _ {before named marked unifiers : List ℕ} {at s : ℕ} {places : List ℕ} (shape : ℕ) (word : WordPut before named at (2 * shape + 1))
-    (set : SetPut named marked (at + 2) s) (put : PlacesPut places marked unifiers s (at + 6) allVariables) where
-  note-put : BytesPut before unifiers at (6 + countOf s allVariables)
-  note-put = put-then (put-then {all = 6} (word .put) (set .put) refl refl) (put .put) refl refl
+module _ {before named unifiers : List ℕ} {at size : ℕ} {places : List ℕ} (shape : ℕ) (word : WordPut before named at (2 * shape + 1))
+    (put : BindingsPut places named unifiers (at + 2) size) where
+  note-put : BytesPut before unifiers at (2 + size)
+  note-put = put-then (word .put) (put .put) refl refl
 
   note-word : wordAt unifiers at ≡ 2 * shape + 1
-  note-word = word-stays named unifiers at (λ j l h. put .put .earlier j (omega arith) ∙ set .put .earlier j h) ∙ word .is
-
-  note-set : setAt unifiers (at + 2) ≡ s
-  note-set = set-stays marked unifiers (at + 2) (λ j l h. put .put .earlier j (omega arith)) ∙ set .is
+  note-word = word-stays named unifiers at (λ j l h. put .put .earlier j h) ∙ word .is
 
 module _ {words dir : List ℕ} {start cells : ℕ} where
   notes-up : {unifiers : List ℕ} {from to : ℕ} → NotesIn words dir start cells unifiers from to → from ≤ to
@@ -61,10 +58,10 @@ module _ {words dir : List ℕ} {start cells : ℕ} where
   notes-stay {unifiers} {unifiers′} {from = from} {to = to} same (unified s places e u c rest) =
       let up = notes-up rest in
       let word = word-stays unifiers unifiers′ from (λ i l h. same i l (omega arith)) in
-      let set = set-stays unifiers unifiers′ (from + 2) (λ i l h. same i (omega arith) (omega arith)) in
+      let within : (i : ℕ) → from + 2 ≤ i → i < notedEnd unifiers (from + 2) → getD unifiers′ i 0 ≡ getD unifiers i 0 = λ i l h. same i (omega arith) (omega arith) in
       unified {to = to} s places (word ∙ e) u
-      (rw set (coded-stays (λ i l h. same i (omega arith) (omega arith)) c))
-      (rw set (notes-stay (λ i l h. same i (omega arith) h) rest))
+      (noted-stays unifiers unifiers′ (from + 2) within c)
+      (rw (end-stays unifiers unifiers′ (from + 2) within) (notes-stay (λ i l h. same i (omega arith) h) rest))
 
   notes-join : {unifiers : List ℕ} {from mid to : ℕ} → NotesIn words dir start cells unifiers from mid → NotesIn words dir start cells unifiers mid to
       → NotesIn words dir start cells unifiers from to
@@ -97,23 +94,14 @@ module _ {words dir : List ℕ} {start cells : ℕ} where
       → ((m : Meeting words dir shape start cells) → Apart (m .S) (m .A)) → Notes words dir start cells after
   note-apart {shape = shape} n noted-is room p q a = notes-more n noted-is refl room (p .put) q (apart shape (p .is) a none)
 
-  note-in : {before named marked unifiers : List ℕ} {at shape s : ℕ} {places : List ℕ} → WordPut before named at (2 * shape + 1) → SetPut named marked (at + 2) s
-      → PlacesPut places marked unifiers s (at + 6) allVariables → Marks (IsBound places) s
-      → ((m : Meeting words dir shape start cells) → MetBindings (m .p .functions) (m .S) (m .A) places)
-      → NotesIn words dir start cells unifiers at (at + (6 + countOf s allVariables))
-  note-in {at = at} {shape} {s} {places} word set put m u =
-      let end : at + 6 + countOf s allVariables ≡ at + (6 + countOf s allVariables) = omega arith in
-      let is = note-set shape word set put in
-      unified {to = at + (6 + countOf s allVariables)} shape places (note-word shape word set put) u (rw is (put-coded m put)) (rw (is, end) none)
-
-  pub note-unified : {before named marked unifiers after : List ℕ} {noted at shape s count : ℕ} {places : List ℕ} → Notes words dir start cells before
-      → noted ≡ wordAt before notedAt → at ≡ firstNote + noted → count ≡ countOf s allVariables → at + 6 + count ≤ length before → Marks (IsBound places) s
-      → WordPut before named at (2 * shape + 1) → SetPut named marked (at + 2) s → PlacesPut places marked unifiers s (at + 6) allVariables
-      → WordPut unifiers after notedAt (noted + 6 + count)
+  pub note-unified : {before named unifiers after : List ℕ} {noted at shape size : ℕ} {places : List ℕ} → Notes words dir start cells before
+      → noted ≡ wordAt before notedAt → at ≡ firstNote + noted → at + (2 + size) ≤ length before
+      → WordPut before named at (2 * shape + 1) → BindingsPut places named unifiers (at + 2) size → WordPut unifiers after notedAt (noted + (2 + size))
       → ((m : Meeting words dir shape start cells) → MetBindings (m .p .functions) (m .S) (m .A) places) → Notes words dir start cells after
-  note-unified {noted = noted} {shape = shape} {s = s} {count = count} n noted-is at-is count-is room m word set put q u =
-      let size : noted + 6 + count ≡ noted + (6 + countOf s allVariables) = omega arith in
-      notes-more n noted-is at-is (omega arith) (note-put shape word set put) (rw size at q) (note-in word set put m u)
+  note-unified {unifiers = unifiers} {at = at} {shape = shape} {size = size} {places = places} n noted-is at-is room word put q u =
+      let end : notedEnd unifiers (at + 2) ≡ at + (2 + size) = omega (arith, put .ends) in
+      notes-more n noted-is at-is room (note-put shape word put) q
+      (unified {to = at + (2 + size)} shape places (note-word shape word put) u (put .noted) (rw end none))
 
   -- the first note
   apart-first : {unifiers : List ℕ} {from to : ℕ} (shape : ℕ) → wordAt unifiers from ≡ 2 * shape → from < to → NotesIn words dir start cells unifiers from to
@@ -124,15 +112,15 @@ module _ {words dir : List ℕ} {start cells : ℕ} where
   apart-first shape is l (unified s places e u c rest) = absurd (omega arith)
 
   unified-first : {unifiers : List ℕ} {from to : ℕ} (shape : ℕ) → wordAt unifiers from ≡ 2 * shape + 1 → from < to → NotesIn words dir start cells unifiers from to
-      → ((places : List ℕ) → length places ≡ allVariables → Coded unifiers places (setAt unifiers (from + 2)) (from + 6) allVariables
+      → ((places : List ℕ) → length places ≡ allVariables → NotedAt unifiers (from + 2) places
       → (m : Meeting words dir shape start cells) → MetBindings (m .p .functions) (m .S) (m .A) places)
-      × NotesIn words dir start cells unifiers (from + 6 + countOf (setAt unifiers (from + 2)) allVariables) to
+      × NotesIn words dir start cells unifiers (notedEnd unifiers (from + 2)) to
   unified-first shape is l none = absurd (omega arith)
   unified-first shape is l (apart s e a rest) = absurd (omega arith)
   unified-first shape is l (unified s places e u c rest) = (
     λ places′ size c′.
         subst (λ (x : ℕ). (m : Meeting words dir x start cells) → MetBindings (m .p .functions) (m .S) (m .A) places′) (omega arith)
-        (λ m. let b = u m in (b .0, unified-as (b .1) places′ (coded-once c c′ (b .1 .all-places) size) size)),
+        (λ m. let b = u m in (b .0, taken-back (b .1) c c′ size)),
     rest,
   )
 
@@ -160,7 +148,7 @@ module _ {words dir : List ℕ} {start cells : ℕ} where
         (first .0, taken (wordAt unifiers takenAt + 2) p (rw two at (first .1)))
 
     module _ (e : w ≡ 2 * shape + 1) where
-      abbrev first : ((places : List ℕ) → length places ≡ allVariables → Coded unifiers places (setAt unifiers (nextAt unifiers + 2)) (nextAt unifiers + 6) allVariables
+      abbrev first : ((places : List ℕ) → length places ≡ allVariables → NotedAt unifiers (nextAt unifiers + 2) places
           → (m : Meeting words dir shape start cells) → MetBindings (m .p .functions) (m .S) (m .A) places)
           × NotesIn words dir start cells unifiers (nextEnd unifiers) (firstNote + wordAt unifiers notedAt)
       first = unified-first shape (sym (next .is) ∙ e) (omega (arith, next .left)) (n .left)
@@ -168,28 +156,24 @@ module _ {words dir : List ℕ} {start cells : ℕ} where
       pub next-within : NextWithin unifiers
       next-within = record { room = n .fitting .room; within = omega (arith, notes-up (first .1), n .fitting .within) }
 
-      pub next-bindings : {after places : List ℕ} → PlacesTaken unifiers after places
+      pub next-bindings : {after places : List ℕ} → NextTaken unifiers after places
           → (m : Meeting words dir shape start cells) → MetBindings (m .p .functions) (m .S) (m .A) places
-      next-bindings t = first .0 _ (t .all-places) (t .coded)
+      next-bindings t = first .0 _ (t .all-places) (t .noted)
 
-      pub next-unified : {after places : List ℕ} → PlacesTaken unifiers after places → Notes words dir start cells after
+      pub next-unified : {after places : List ℕ} → NextTaken unifiers after places → Notes words dir start cells after
       next-unified t = let end = t .end in taken (end .0) (end .2) (rw (end .1) (first .1))
 
 -- the next note, of a shape that unifies, as it is read
-module _ {unifiers : List ℕ} {taken s : ℕ} (next : NextWithin unifiers) (taken-is : taken ≡ wordAt unifiers takenAt)
-    (set-is : s ≡ setAt unifiers (firstNote + taken + 2)) where
-  next-end : firstNote + taken + 6 + countOf s allVariables ≡ nextEnd unifiers
-  next-end = rw (set-is, taken-is) refl
+module _ {unifiers : List ℕ} {taken : ℕ} (next : NextWithin unifiers) (taken-is : taken ≡ wordAt unifiers takenAt) where
+  -- its bindings are within the bytes, and where they end is a word
+  pub next-fits : notedEnd unifiers (firstNote + taken + 2) ≤ length unifiers
+  next-fits = rw taken-is (next .within)
 
-  -- its places are within the bytes, and where they end is a word
-  pub next-fits : firstNote + taken + 6 + countOf s allVariables ≤ length unifiers
-  next-fits = rw next-end (next .within)
-
-  module _ {end : ℕ} (end-is : end ≡ firstNote + taken + 6 + countOf s allVariables) where
+  module _ {places : List ℕ} {end : ℕ} (t : BindingsTaken unifiers places (firstNote + taken + 2) end) where
     pub next-counted : (takenAt + 2 ≤ length unifiers) × (end - firstNote < 65536)
-    next-counted = (omega (arith, next .room .some), omega (arith, next-fits, next .room .few))
+    next-counted = (omega (arith, next .room .some), omega (arith, t .ends, next-fits, next .room .few))
 
-    pub next-taken : {after places : List ℕ} → length places ≡ allVariables → Coded unifiers places s (firstNote + taken + 6) allVariables
-        → WordPut unifiers after takenAt (end - firstNote) → PlacesTaken unifiers after places
-    next-taken size c p =
-        record { end = (end - firstNote, omega (arith, next-end), p); all-places = size; coded = rw (set-is, taken-is) at c }
+    pub next-taken : {after : List ℕ} → WordPut unifiers after takenAt (end - firstNote) → NextTaken unifiers after places
+    next-taken p =
+        let end-is : end ≡ nextEnd unifiers = rw taken-is at (t .ends) in
+        record { end = (end - firstNote, omega arith, p); all-places = t .all-places; noted = rw taken-is at (t .noted) }

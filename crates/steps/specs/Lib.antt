@@ -4,6 +4,4 @@ pub mod Situation
 pub mod Parts
 pub mod Since
 pub mod Heads
-pub mod NoteWords
-pub mod NotedPlaces
 pub mod Unifiers

@@ -4,13 +4,14 @@ use mathlib.Core.Path.{_≡_}
 use mathlib.Core.List.{List}
 use lib.ListN.{length, getD}
 use Rattle.terms.specs.Unifier.{Apart}
+use Rattle.terms.specs.Store.{allVariables}
+use Rattle.terms.specs.Bytes.{wordAt, WordPut}
+use Rattle.terms.specs.Noted.{NotedAt, notedEnd}
 use Rattle.directory.specs.Layout.{clauseHead, clauseCells}
 use Rattle.steps.specs.Situation.{Meeting, MetBindings}
-use Rattle.steps.specs.NoteWords.{wordAt, setAt, WordPut}
-use Rattle.steps.specs.NotedPlaces.{allVariables, countOf, Coded}
 
 -- the notes in the bytes from one place to another. Shape s that is apart from the atom: the word 2s. One that unifies with it: the word
--- 2s + 1, the set of the variables that are bound, and their places.
+-- 2s + 1, and behind it the bindings that unification left.
 pub data NotesIn (words dir : List ℕ) (start cells : ℕ) (unifiers : List ℕ) : ℕ → ℕ → Type 0 where
   none : {to : ℕ} → NotesIn words dir start cells unifiers to to
   apart : {from to : ℕ} (s : ℕ) → wordAt unifiers from ≡ 2 * s
@@ -18,8 +19,8 @@ pub data NotesIn (words dir : List ℕ) (start cells : ℕ) (unifiers : List ℕ
       → NotesIn words dir start cells unifiers (from + 2) to → NotesIn words dir start cells unifiers from to
   unified : {from to : ℕ} (s : ℕ) (places : List ℕ) → wordAt unifiers from ≡ 2 * s + 1
       → ((m : Meeting words dir s start cells) → MetBindings (m .p .functions) (m .S) (m .A) places)
-      → Coded unifiers places (setAt unifiers (from + 2)) (from + 6) allVariables
-      → NotesIn words dir start cells unifiers (from + 6 + countOf (setAt unifiers (from + 2)) allVariables) to
+      → NotedAt unifiers (from + 2) places
+      → NotesIn words dir start cells unifiers (notedEnd unifiers (from + 2)) to
       → NotesIn words dir start cells unifiers from to
 
 -- the word at byte 0: how many bytes of the notes are taken; that at byte 2: how many bytes the notes have; the notes stand behind these two
@@ -78,15 +79,15 @@ pub record NextWord (unifiers : List ℕ) (r : ℕ) : Type 0 where
 
 -- where the next note ends, if it is of a shape that unifies
 abbrev pub nextEnd : List ℕ → ℕ
-nextEnd unifiers = nextAt unifiers + 6 + countOf (setAt unifiers (nextAt unifiers + 2)) allVariables
+nextEnd unifiers = notedEnd unifiers (nextAt unifiers + 2)
 
 -- such a note is within the bytes
 pub record NextWithin (unifiers : List ℕ) : Type 0 where
   pub room : Room unifiers
   pub within : nextEnd unifiers ≤ length unifiers
 
--- it is taken: these are its places
-pub record PlacesTaken (before after places : List ℕ) : Type 0 where
+-- it is taken: these are its bindings
+pub record NextTaken (before after places : List ℕ) : Type 0 where
   pub end : (e : ℕ) × (firstNote + e ≡ nextEnd before) × WordPut before after takenAt e
   pub all-places : length places ≡ allVariables
-  pub coded : Coded before places (setAt before (nextAt before + 2)) (nextAt before + 6) allVariables
+  pub noted : NotedAt before (nextAt before + 2) places

@@ -11,10 +11,11 @@ use terms::walk::FIRST_VARIABLE;
 use terms::walk::wide;
 ghost use mathlib.Core.Path.{_≡_};
 ghost use Prim.Native.Nat.{_+_, _-_, _≤_, _<_};
-ghost use lib.ListN.{length};
+ghost use lib.ListN.{length, getD};
 ghost use Rattle.terms.specs.Mask.{Marks};
 ghost use Rattle.terms.specs.Term.{Term};
 ghost use Rattle.marks.specs.Modes.{InOrder};
+ghost use Rattle.directory.specs.Layout.{functionsStart};
 ghost use Rattle.program.specs.Shapes.{number};
 ghost use Rattle.steps.specs.Parts.{shapeRun, ShapeIn, functionsRun, FunctionsIn};
 ghost use Rattle.steps.specs.Situation.{Meeting, Unifying, Met, MetStore, MetBindings, AnAtom, AtomRun};
@@ -29,12 +30,11 @@ fn shape_run<'a>(dir: &'a [u16], shape: usize) -> &'a [u16]
     &dir[from..to]
 }
 
-// The arities of the functions, in the words.
-fn functions_run<'a>(words: &'a [u16], dir: &[u16]) -> &'a [u16]
-    requires { ⌜ FunctionsIn (now words) (now dir) ⌝ }
+// The arities of the functions, in the words: where they begin is read already.
+fn functions_run<'a>(words: &'a [u16], dir: &[u16], functions: usize) -> &'a [u16]
+    requires { ⌜ FunctionsIn (now words) (now dir) × (functions ≡ getD (now dir) functionsStart 0) ⌝ }
     ensures { λ r. ⌜ now r ≡ functionsRun (now (words .entry)) (now (dir .entry)) ⌝ }
 {
-    let functions = wide(dir[FUNCTIONS_START]);
     let clauses = wide(dir[CLAUSES_START]);
     &words[functions..clauses]
 }
@@ -54,8 +54,8 @@ pub fn meet_store<'a>(
         → MetStore (m .p .functions) (m .S) (m .A) r (now (places .exit)) (now (sets .exit))) ⌝ }
 {
     let run = shape_run(dir, shape);
-    let arities = functions_run(words, dir);
     let functions = wide(dir[FUNCTIONS_START]);
+    let arities = functions_run(words, dir, functions);
     let end = start + cells;
     unify(
         run,
@@ -98,7 +98,8 @@ pub fn meet_stored<'a>(
     ensures { λ _. ⌜ ((m : Meeting (now (words .entry)) (now (dir .entry)) shape start cells) → Unifying (m .S) (m .A) (now (sets .exit))) ⌝ }
 {
     let run = shape_run(dir, shape);
-    let arities = functions_run(words, dir);
+    let functions = wide(dir[FUNCTIONS_START]);
+    let arities = functions_run(words, dir, functions);
     let end = start + cells;
     sets_of(run, &words[start..end], arities, places, sets);
 }

@@ -2,21 +2,22 @@
 use crate::meet::meet;
 use crate::meet::meet_store;
 use crate::meet::meet_stored;
-use crate::note_words::noted_set;
-use crate::note_words::put_set;
-use crate::note_words::put_word;
-use crate::note_words::word_at;
-use crate::noted_places::bound_set;
-use crate::noted_places::count_of;
-use crate::noted_places::put_places;
-use crate::noted_places::take_places;
+use terms::bytes::put_word;
+use terms::bytes::word_at;
+use terms::noted::bound_set;
+use terms::noted::noted_size;
+use terms::noted::put_bindings;
+use terms::noted::take_bindings;
 use terms::unifier::NO_PLACE;
 ghost use mathlib.Core.List.{List};
 ghost use Prim.Native.Nat.{ℕ, _+_, _<_};
+ghost use Rattle.terms.specs.Bytes.{wordAt, WordPut};
 ghost use Rattle.program.specs.Limits.{maxShapes};
 ghost use Rattle.steps.specs.Situation.{Meeting, Met};
-ghost use Rattle.steps.specs.NoteWords.{wordAt, WordPut};
-ghost use Rattle.steps.specs.Unifiers.{takenAt, Room, Fitting, Notes, ApartNoted, UnifiedNoted, NextWord, NextWithin, PlacesTaken};
+ghost use Rattle.steps.specs.Unifiers.{takenAt, Room, Fitting, Notes, ApartNoted, UnifiedNoted, NextWord, NextWithin, NextTaken};
+
+// The bytes in which a clause without a body notes what comes of its head and the shapes of calls to it: as many as those of any program can take.
+pub const UNIFIER_BYTES: usize = 10400;
 
 // The words that say how many bytes of the notes are taken, and how many the notes have; the notes stand behind them.
 const TAKEN: usize = 0;
@@ -25,10 +26,8 @@ const NOTED: usize = 2;
 
 const FIRST_NOTE: usize = 4;
 
-// What a note has before the places: a word, and behind it a set.
+// What a note begins with: a word. Behind it stand the bindings, where the shape unifies.
 const WORD: usize = 2;
-
-const WORD_AND_SET: usize = 6;
 
 // Greater than every word: there is no next note.
 const NO_WORD: usize = 65536;
@@ -62,16 +61,15 @@ fn note_unified(unifiers: &mut [u8], shape: usize, places: &[u8; 32])
     ensures { λ _. ⌜ UnifiedNoted shape (now (places .entry)) (now (unifiers .entry)) (now (unifiers .exit)) ⌝ }
 {
     let set = bound_set(places);
-    let count = count_of(set);
+    let size = WORD + noted_size(set);
     let noted = word_at(unifiers, NOTED);
     let at = FIRST_NOTE + noted;
-    if unifiers.len() < at + WORD_AND_SET + count {
+    if unifiers.len() < at + size {
         return;
     }
     put_word(unifiers, at, 2 * shape + 1);
-    put_set(unifiers, at + WORD, set);
-    put_places(places, set, unifiers, at + WORD_AND_SET);
-    put_word(unifiers, NOTED, noted + WORD_AND_SET + count);
+    put_bindings(places, set, unifiers, at + WORD);
+    put_word(unifiers, NOTED, noted + size);
 }
 
 // The first word of the next note that is not taken yet.
@@ -96,14 +94,13 @@ fn take_apart(unifiers: &mut [u8])
     put_word(unifiers, TAKEN, taken + WORD);
 }
 
-// Takes the next note, of a shape that unifies, and its places.
+// Takes the next note, of a shape that unifies, and its bindings.
 fn take_unified(unifiers: &mut [u8], places: &mut [u8; 32])
     requires { ⌜ NextWithin (now unifiers) ⌝ }
-    ensures { λ _. ⌜ PlacesTaken (now (unifiers .entry)) (now (unifiers .exit)) (now (places .exit)) ⌝ }
+    ensures { λ _. ⌜ NextTaken (now (unifiers .entry)) (now (unifiers .exit)) (now (places .exit)) ⌝ }
 {
     let at = FIRST_NOTE + word_at(unifiers, TAKEN);
-    let set = noted_set(unifiers, at + WORD);
-    let end = take_places(unifiers, set, at + WORD_AND_SET, places);
+    let end = take_bindings(unifiers, at + WORD, places);
     put_word(unifiers, TAKEN, end - FIRST_NOTE);
 }
 

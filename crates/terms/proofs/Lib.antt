@@ -24,3 +24,6 @@ pub mod Atoms
 pub mod Standing
 pub mod Stores
 pub mod Refilled
+pub mod BytesPut
+mod CodedPlaces
+pub mod NotedBindings

@@ -8,3 +8,5 @@ pub mod Store
 pub mod Walk
 pub mod Unifying
 pub mod Unified
+pub mod Bytes
+pub mod Noted

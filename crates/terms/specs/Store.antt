@@ -16,6 +16,10 @@ secondAtom = 64
 abbrev pub noPlace : ℕ
 noPlace = 128
 
+-- the variables of both atoms: those of the first, and behind them those of the second
+abbrev pub allVariables : ℕ
+allVariables = variables + variables
+
 -- "the two atoms' variables kept apart": variable v of the second atom is 16 + v
 abbrev pub second : Terms → Terms
 second ts = subs ts (λ v. var (variables + v))

@@ -8,7 +8,7 @@ use Rattle.terms.specs.Term.{Term, Subst, var, Occ}
 use Rattle.terms.specs.Cells.{variables, atomCells, pick, enc, Atom, Run}
 use Rattle.terms.specs.Mask.{Marks}
 use Rattle.terms.specs.Unifier.{Apart, MostGeneral}
-use Rattle.terms.specs.Store.{noPlace, cellsAt, bound, Stands}
+use Rattle.terms.specs.Store.{allVariables, noPlace, cellsAt, bound, Stands}
 
 -- "What a variable stands for": variable v of the first atom has its set at v, variable v of the second at 16 + v
 pub record Sets (α β : Subst) (sets : List ℕ) : Type 0 where
@@ -22,7 +22,7 @@ pub record Unified (functions a b : List ℕ) (A B : Term) (places sets : List �
   pub stands : (x : ℕ) → Stands (bound functions a b places) (var x) (σ x)
   pub most-general : MostGeneral A B σ (λ v. σ (variables + v))
   pub sets-right : Sets σ (λ v. σ (variables + v)) sets
-  pub all-places : length places ≡ variables + variables
+  pub all-places : length places ≡ allVariables
   pub whole : (x : ℕ) → getD places x noPlace < noPlace → Run functions (cellsAt a b (getD places x noPlace)) 1
 
 -- the bindings are those of a most general unifier of the two atoms

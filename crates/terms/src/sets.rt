@@ -4,7 +4,7 @@ use crate::unifier::NO_PLACE;
 use crate::unifier::VARIABLES;
 use crate::unifier::replace;
 use crate::unifier::set_at;
-use crate::unifier::wide_place;
+use crate::walk::wide_byte;
 ghost use Rattle.terms.specs.Term.{Term};
 ghost use Rattle.terms.specs.Unified.{Unified, Bindings, StoreOf};
 
@@ -26,7 +26,7 @@ pub fn sets_of<'a>(
     while x < VARIABLES {
         let place = places[x];
         if place < NO_PLACE {
-            let gained = set_at(a, b, functions, wide_place(place), sets);
+            let gained = set_at(a, b, functions, wide_byte(place), sets);
             replace(sets, x, gained);
         }
         x += 1;

@@ -5,6 +5,7 @@ use crate::walk::only;
 use crate::walk::terms_end;
 use crate::walk::union_of;
 use crate::walk::wide;
+use crate::walk::wide_byte;
 ghost use mathlib.Core.Path.{_≡_};
 ghost use mathlib.Core.Logic.{_↔_};
 ghost use Prim.Native.Nat.{ℕ, _+_, _-_, _≤_, _<_};
@@ -25,13 +26,6 @@ pub const NO_PLACE: u8 = 128;
 pub const VARIABLES: usize = 32;
 
 pub const FIRST_VARIABLES: usize = 16;
-
-// A binding as an index.
-pub fn wide_place(x: u8) -> usize
-    ensures { λ r. ⌜ (r ≡ x) × (r < 256) ⌝ }
-{
-    x as usize
-}
 
 // The cell at a place.
 fn cell_at(a: &[u16], b: &[u16], place: usize) -> u16
@@ -74,7 +68,7 @@ fn look_at(a: &[u16], b: &[u16], places: &[u8; 32], place: usize) -> Look
     let x = variable_at(cell, place);
     let bound_to = places[x];
     if bound_to < NO_PLACE {
-        Look::Bound(wide_place(bound_to))
+        Look::Bound(wide_byte(bound_to))
     } else {
         Look::Unbound(x)
     }

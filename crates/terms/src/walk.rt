@@ -17,6 +17,13 @@ pub fn wide(x: u16) -> usize
     x as usize
 }
 
+// A byte as an index, a place or a part of a word.
+pub fn wide_byte(x: u8) -> usize
+    ensures { λ r. ⌜ (r ≡ x) × (r < 256) ⌝ }
+{
+    x as usize
+}
+
 // A count or a place as a word.
 pub fn narrow(x: usize) -> u16
     requires { ⌜ x < 65536 ⌝ }

@@ -9,9 +9,9 @@ use terms::unifier::NO_PLACE;
 use terms::unifier::SECOND_ATOM;
 use terms::unifier::resolve;
 use terms::unifier::unify;
-use terms::unifier::wide_place;
 use terms::walk::has;
 use terms::walk::present;
+use terms::walk::wide_byte;
 ghost use Prim.Native.Nat.{_≤_, _<_};
 ghost use Rattle.terms.specs.Cells.{Run};
 ghost use Rattle.terms.specs.Store.{cellsAt};
@@ -55,7 +55,7 @@ fn put_variables<'a>(
             io::write_all(STDOUT_FILENO, b"\t");
             let place = places[x];
             if place < NO_PLACE {
-                put_binding(a, b, functions, wide_place(place));
+                put_binding(a, b, functions, wide_byte(place));
             } else {
                 io::write_all(STDOUT_FILENO, b"-");
             }

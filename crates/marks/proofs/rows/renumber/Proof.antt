@@ -18,11 +18,11 @@ abbrev μ-loop : tie.MeasureT-loop
 loop-holds : tie.Need-loop-holds Inv-loop μ-loop
 loop-holds c = (omega arith, reordered-none (c .args .order .now) (c .args .mask))
 
-element-copy-out-wide-variable : tie.Need-element-copy-out-wide-variable Inv-loop μ-loop
-element-copy-out-wide-variable c = omega arith
+element-copy-out-wide-byte : tie.Need-element-copy-out-wide-byte Inv-loop μ-loop
+element-copy-out-wide-byte c = omega arith
 
-wide-variable-requires : tie.Need-wide-variable-requires Inv-loop μ-loop
-wide-variable-requires c κs = search needs
+wide-byte-requires : tie.Need-wide-byte-requires Inv-loop μ-loop
+wide-byte-requires c κs = search needs
 
 marks-requires : tie.Need-marks-requires Inv-loop μ-loop
 marks-requires c κs =
@@ -42,7 +42,7 @@ loop-again : tie.Need-loop-again Inv-loop μ-loop
 loop-again c =
     let a = c .before .before .before .before .before .before .args in
     let l = c .before .before .before .before .before .loop in
-    let v = c .before .before .wide-variable .ensures in
+    let v = c .before .before .wide-byte .ensures .0 in
     let tested = c .before .marks .ensures in
     ⊎-elim
     (λ w.
@@ -68,8 +68,8 @@ renumber-spec =
     Inv-loop
     μ-loop
     loop-holds
-    element-copy-out-wide-variable
-    wide-variable-requires
+    element-copy-out-wide-byte
+    wide-byte-requires
     marks-requires
     mark-requires
     add-k

@@ -21,11 +21,11 @@ loop-holds c = (omega arith, restored-none (c .args .order .now) (c .args .mask)
 marks-requires : tie.Need-marks-requires Inv-loop μ-loop
 marks-requires c κs = omega arith
 
-element-copy-out-wide-variable : tie.Need-element-copy-out-wide-variable Inv-loop μ-loop
-element-copy-out-wide-variable c = omega arith
+element-copy-out-wide-byte : tie.Need-element-copy-out-wide-byte Inv-loop μ-loop
+element-copy-out-wide-byte c = omega arith
 
-wide-variable-requires : tie.Need-wide-variable-requires Inv-loop μ-loop
-wide-variable-requires c κs = search needs
+wide-byte-requires : tie.Need-wide-byte-requires Inv-loop μ-loop
+wide-byte-requires c κs = search needs
 
 mark-requires : tie.Need-mark-requires Inv-loop μ-loop
 mark-requires c κs =
@@ -46,7 +46,7 @@ loop-again c =
     ⊎-elim
     (λ w. (
       omega arith,
-      rw (w .4, w .3 .ensures, w .2 .ensures) (restored-marked (a .order .now) (l .k) (a .mask) (l .restored) (l .inv .1) (tested .0 (rw (w .0 .taken) tt))),
+      rw (w .4, w .3 .ensures, w .2 .ensures .0) (restored-marked (a .order .now) (l .k) (a .mask) (l .restored) (l .inv .1) (tested .0 (rw (w .0 .taken) tt))),
     ))
     (λ w. (omega arith, rw (w .1) (restored-unmarked (a .order .now) (l .k) (a .mask) (l .restored) (l .inv .1) (λ h. rw (w .0 .left) at (tested .1 h)))))
     (c .if1 .came)
@@ -65,8 +65,8 @@ restore-spec =
     μ-loop
     loop-holds
     marks-requires
-    element-copy-out-wide-variable
-    wide-variable-requires
+    element-copy-out-wide-byte
+    wide-byte-requires
     mark-requires
     add-k
     loop-less

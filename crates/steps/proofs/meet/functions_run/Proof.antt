@@ -10,12 +10,6 @@ shared-slice-read-wide c = search needs
 wide-requires : tie.Need-wide-requires
 wide-requires c κs = search needs
 
-shared-slice-read-wide-2 : tie.Need-shared-slice-read-wide-2
-shared-slice-read-wide-2 c = search needs
-
-wide-requires-2 : tie.Need-wide-requires-2
-wide-requires-2 c κs = search needs
-
 mul-result : tie.Need-mul-result
 mul-result c = search needs
 
@@ -29,7 +23,7 @@ part-result-end : tie.Need-part-result-end
 part-result-end c = search needs
 
 returns : tie.Need-returns
-returns c = rw (c .before .wide2 .ensures .0, c .before .before .before .wide .ensures .0) refl
+returns c = rw (c .before .wide .ensures .0, c .before .before .before .before .before .pre .1) refl
 
 pub functions-run-spec : {M : Type 1} → statement M
 functions-run-spec =
@@ -37,8 +31,6 @@ functions-run-spec =
     (tie.spec
     shared-slice-read-wide
     wide-requires
-    shared-slice-read-wide-2
-    wide-requires-2
     mul-result
     sub-result
     part-result-start

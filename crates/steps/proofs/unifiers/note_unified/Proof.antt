@@ -1,5 +1,5 @@
--- `note_unified` meets its contract: the shape's word, the set of the bound variables and their places stand behind the notes, and the notes end
--- behind them. Assumes nothing.
+-- `note_unified` meets its contract: the shape's word and its bindings stand behind the notes, and the notes end behind them. Assumes nothing.
+use native.Mathlib.Omega.{arith}
 use mathlib.Core.Path.{refl}
 use borrow.Author.Needs.{needs}
 use Rattle.steps.proofs.NotedUnifiers.{note-unified}
@@ -9,8 +9,11 @@ use Rattle.steps.proofs.unifiers.note_unified.Tie as tie
 bound-set-requires : tie.Need-bound-set-requires
 bound-set-requires c κs = search needs
 
-count-of-requires : tie.Need-count-of-requires
-count-of-requires c κs = search needs
+noted-size-requires : tie.Need-noted-size-requires
+noted-size-requires c κs = search needs
+
+add-size : tie.Need-add-size
+add-size c = search needs
 
 word-at-requires : tie.Need-word-at-requires
 word-at-requires c κs = search needs
@@ -20,9 +23,6 @@ add-at c = search needs
 
 add-if1 : tie.Need-add-if1
 add-if1 c = search needs
-
-add-if1-2 : tie.Need-add-if1-2
-add-if1-2 c = search needs
 
 same-length : tie.Need-same-length
 same-length c = search needs
@@ -39,23 +39,14 @@ add-put-word c = search needs
 put-word-requires : tie.Need-put-word-requires
 put-word-requires c κs = search needs
 
-add-put-set : tie.Need-add-put-set
-add-put-set c = search needs
+add-put-bindings : tie.Need-add-put-bindings
+add-put-bindings c = search needs
 
-put-set-requires : tie.Need-put-set-requires
-put-set-requires c κs = search needs
-
-add-put-places : tie.Need-add-put-places
-add-put-places c = search needs
-
-put-places-requires : tie.Need-put-places-requires
-put-places-requires c κs = search needs
+put-bindings-requires : tie.Need-put-bindings-requires
+put-bindings-requires c κs = search needs
 
 add-put-word-2 : tie.Need-add-put-word-2
 add-put-word-2 c = search needs
-
-add-put-word-3 : tie.Need-add-put-word-3
-add-put-word-3 c = search needs
 
 put-word-requires-2 : tie.Need-put-word-requires-2
 put-word-requires-2 c κs = search needs
@@ -65,30 +56,28 @@ same-length-2 c = search needs
 
 returns-2 : tie.Need-returns-2
 returns-2 c =
-    λ words dir start cells n u. note-unified n (c .before .before .before .before .before .before .before .before .before .before .before .before .before .before .before .before .before .word-at .ensures .0) refl (c .before .before .before .before .before .before .before .before .before .before .before .before .before .before .before .before .before .before .before .count-of .ensures .0) (c .before .before .before .before .before .before .before .before .before .before .before .before .before .before .before .before .if1 .left)
-    (c .before .before .before .before .before .before .before .before .before .before .before .before .before .before .before .before .before .before .before .before .bound-set .ensures) (c .before .before .before .before .before .before .before .before .before .before .before .before .before .before .put-word .ensures) (c .before .before .before .before .before .before .before .before .before .before .put-set .ensures) (c .before .before .before .before .before .before .put-places .ensures) (c .before .before .put-word2 .ensures) u
+    let size = c .before .before .before .before .before .before .before .before .before .before .before .before .before .before .before .noted-size .ensures .0 in
+    λ words dir start cells n u. note-unified n (c .before .before .before .before .before .before .before .before .before .before .before .before .before .word-at .ensures .0) refl (omega (arith, c .before .before .before .before .before .before .before .before .before .before .before .before .if1 .left, size))
+    (c .before .before .before .before .before .before .before .before .before .before .put-word .ensures) (c .before .before .before .before .before .before .put-bindings .ensures) (rw size at (c .before .before .put-word2 .ensures)) u
 
 pub note-unified-spec : {M : Type 1} → statement M
 note-unified-spec =
     tie.close
     (tie.spec
     bound-set-requires
-    count-of-requires
+    noted-size-requires
+    add-size
     word-at-requires
     add-at
     add-if1
-    add-if1-2
     same-length
     returns
     mul-put-word
     add-put-word
     put-word-requires
-    add-put-set
-    put-set-requires
-    add-put-places
-    put-places-requires
+    add-put-bindings
+    put-bindings-requires
     add-put-word-2
-    add-put-word-3
     put-word-requires-2
     same-length-2
     returns-2)

@@ -1,4 +1,4 @@
--- `take_unified` meets its contract: the places stand behind the set, and what is taken ends where they do. Assumes nothing.
+-- `take_unified` meets its contract: the bindings stand behind the shape's word, and what is taken ends where they do. Assumes nothing.
 use borrow.Author.Needs.{needs}
 use Rattle.steps.proofs.NotedUnifiers.{next-fits, next-counted, next-taken}
 use Rattle.steps.proofs.unifiers.take_unified.Statement.{statement}
@@ -10,32 +10,23 @@ word-at-requires c κs = search needs
 add-at : tie.Need-add-at
 add-at c = search needs
 
-add-noted-set : tie.Need-add-noted-set
-add-noted-set c = search needs
+add-take-bindings : tie.Need-add-take-bindings
+add-take-bindings c = search needs
 
-noted-set-requires : tie.Need-noted-set-requires
-noted-set-requires c κs = search needs
-
-add-take-places : tie.Need-add-take-places
-add-take-places c = search needs
-
-take-places-requires : tie.Need-take-places-requires
-take-places-requires c κs = next-fits (c .before .before .before .before .before .before .before .pre) (c .before .before .before .before .word-at .ensures .0) (c .before .before .noted-set .ensures)
+take-bindings-requires : tie.Need-take-bindings-requires
+take-bindings-requires c κs = next-fits (c .before .before .before .before .before .pre) (c .before .before .word-at .ensures .0)
 
 sub-put-word : tie.Need-sub-put-word
 sub-put-word c = search needs
 
 put-word-requires : tie.Need-put-word-requires
-put-word-requires c κs =
-    next-counted (c .before .before .before .before .before .before .before .before .before .pre) (c .before .before .before .before .before .before .word-at .ensures .0) (c .before .before .before .before .noted-set .ensures) (c .before .take-places .ensures .0)
+put-word-requires c κs = next-counted (c .before .before .before .before .before .before .before .pre) (c .before .before .before .before .word-at .ensures .0) (c .before .take-bindings .ensures)
 
 same-length : tie.Need-same-length
 same-length c = search needs
 
 returns : tie.Need-returns
-returns c =
-    let places = c .before .before .before .before .take-places .ensures in
-    next-taken (c .before .before .before .before .before .before .before .before .before .before .before .before .pre) (c .before .before .before .before .before .before .before .before .before .word-at .ensures .0) (c .before .before .before .before .before .before .before .noted-set .ensures) (places .0) (places .1) (places .2) (c .before .before .put-word .ensures)
+returns c = next-taken (c .before .before .before .before .before .before .before .before .before .before .pre) (c .before .before .before .before .before .before .before .word-at .ensures .0) (c .before .before .before .before .take-bindings .ensures) (c .before .before .put-word .ensures)
 
 pub take-unified-spec : {M : Type 1} → statement M
 take-unified-spec =
@@ -43,10 +34,8 @@ take-unified-spec =
     (tie.spec
     word-at-requires
     add-at
-    add-noted-set
-    noted-set-requires
-    add-take-places
-    take-places-requires
+    add-take-bindings
+    take-bindings-requires
     sub-put-word
     put-word-requires
     same-length

@@ -22,16 +22,16 @@ loop-holds c =
 element-copy-out-place : tie.Need-element-copy-out-place Inv-loop μ-loop
 element-copy-out-place c = c .loop-test .taken
 
-wide-place-requires : tie.Need-wide-place-requires Inv-loop μ-loop
-wide-place-requires c κs = tt
+wide-byte-requires : tie.Need-wide-byte-requires Inv-loop μ-loop
+wide-byte-requires c κs = tt
 
 set-at-requires : tie.Need-set-at-requires Inv-loop μ-loop
 set-at-requires c κs =
     let s = c .before .before .before .before .before .before .before .before .before in
-    let w = c .before .wide-place .ensures .0 in
-    let l : c .before .wide-place .result < 128 = rw w (c .before .before .if1 .taken) in (
+    let w = c .before .wide-byte .ensures .0 in
+    let l : c .before .wide-byte .result < 128 = rw w (c .before .before .if1 .taken) in (
       whole-there (s .args .functions .now) (s .args .a .now) (s .args .b .now) (s .args .places .now) (s .pre)
-          (c .before .before .before .before .before .loop .x) (c .before .wide-place .result) (c .before .before .before .before .loop-test .taken) w l,
+          (c .before .before .before .before .before .loop .x) (c .before .wide-byte .result) (c .before .before .before .before .loop-test .taken) w l,
       l,
       s .pre .first-short,
     )
@@ -79,7 +79,7 @@ sets-of-spec =
     μ-loop
     loop-holds
     element-copy-out-place
-    wide-place-requires
+    wide-byte-requires
     set-at-requires
     replace-requires
     add-x

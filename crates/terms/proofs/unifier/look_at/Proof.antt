@@ -19,8 +19,8 @@ variable-at-requires c κs = search needs
 element-copy-out-bound-to : tie.Need-element-copy-out-bound-to
 element-copy-out-bound-to c = search needs
 
-wide-place-requires : tie.Need-wide-place-requires
-wide-place-requires c κs = search needs
+wide-byte-requires : tie.Need-wide-byte-requires
+wide-byte-requires c κs = search needs
 
 returns-2 : tie.Need-returns-2
 returns-2 c =
@@ -28,9 +28,9 @@ returns-2 c =
     let b = c .before .before .before .before .before .before .before .before .args .b .now in
     let p = c .before .before .before .before .before .before .before .before .args .place in
     let q = c .before .before .before .before .before .before .before .before .args .places .now in
-    look-bound a b q p (c .before .before .before .before .before .cell-at .result) (c .before .before .before .variable-at .result) (c .wide-place .result)
+    look-bound a b q p (c .before .before .before .before .before .cell-at .result) (c .before .before .before .variable-at .result) (c .wide-byte .result)
     (c .before .before .before .before .before .cell-at .ensures) (c .before .before .before .before .if1 .left)
-    (c .before .before .before .variable-at .ensures .0) (c .wide-place .ensures .0) (c .before .if2 .taken)
+    (c .before .before .before .variable-at .ensures .0) (c .wide-byte .ensures .0) (c .before .if2 .taken)
 
 returns-3 : tie.Need-returns-3
 returns-3 c =
@@ -49,6 +49,6 @@ look-at-spec =
     returns
     variable-at-requires
     element-copy-out-bound-to
-    wide-place-requires
+    wide-byte-requires
     returns-2
     returns-3)

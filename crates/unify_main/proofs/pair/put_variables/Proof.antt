@@ -39,17 +39,17 @@ write-all-requires-2 c κs = search needs
 element-copy-out-place : tie.Need-element-copy-out-place Inv-loop μ-loop
 element-copy-out-place c = search needs
 
-wide-place-requires : tie.Need-wide-place-requires Inv-loop μ-loop
-wide-place-requires c κs = search needs
+wide-byte-requires : tie.Need-wide-byte-requires Inv-loop μ-loop
+wide-byte-requires c κs = search needs
 
 put-binding-requires : tie.Need-put-binding-requires Inv-loop μ-loop
 put-binding-requires c κs =
     let s = c .before .before .before .before .before .before .before .before .before .before .before .before .before .before .before in
     let x = s .args .base + c .before .before .before .before .before .before .before .before .before .before .before .loop .v in
-    let e = c .wide-place .ensures .0 in
-    let l : c .wide-place .result < 128 = rw e (c .before .if2 .taken) in (
+    let e = c .wide-byte .ensures .0 in
+    let l : c .wide-byte .result < 128 = rw e (c .before .if2 .taken) in (
       binding-whole (s .args .functions .now) (s .args .a .now) (s .args .b .now) (s .args .places .now) (s .pre .0) x
-          (c .wide-place .result) (omega (arith, s .pre .1, c .before .before .before .before .before .before .before .before .before .before .loop-test .taken)) e l,
+          (c .wide-byte .result) (omega (arith, s .pre .1, c .before .before .before .before .before .before .before .before .before .before .loop-test .taken)) e l,
       l,
     )
 
@@ -101,7 +101,7 @@ put-variables-spec =
     slice-aggregate-write-all-2
     write-all-requires-2
     element-copy-out-place
-    wide-place-requires
+    wide-byte-requires
     put-binding-requires
     slice-aggregate-write-all-3
     write-all-requires-3

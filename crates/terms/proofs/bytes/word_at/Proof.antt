@@ -1,9 +1,9 @@
 -- `word_at` meets its contract: a word is its two bytes. Assumes nothing.
 use native.Mathlib.Omega.{arith}
 use borrow.Author.Needs.{needs}
-use Rattle.steps.proofs.NoteWords.{word-is}
-use Rattle.steps.proofs.note_words.word_at.Statement.{statement}
-use Rattle.steps.proofs.note_words.word_at.Tie as tie
+use Rattle.terms.proofs.BytesPut.{word-is}
+use Rattle.terms.proofs.bytes.word_at.Statement.{statement}
+use Rattle.terms.proofs.bytes.word_at.Tie as tie
 
 shared-slice-read-wide-byte : tie.Need-shared-slice-read-wide-byte
 shared-slice-read-wide-byte c = search needs

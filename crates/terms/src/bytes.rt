@@ -1,15 +1,9 @@
 // Words and sets of variables as they stand in lent bytes, the low byte first.
+use crate::walk::wide_byte;
 ghost use mathlib.Core.Path.{_≡_};
 ghost use Prim.Native.Nat.{_+_, _≤_, _<_};
 ghost use lib.ListN.{length};
-ghost use Rattle.steps.specs.NoteWords.{wordAt, setAt, WordPut, SetPut};
-
-// A byte as a part of a word.
-fn wide_byte(x: u8) -> usize
-    ensures { λ r. ⌜ (r ≡ x) × (r < 256) ⌝ }
-{
-    x as usize
-}
+ghost use Rattle.terms.specs.Bytes.{wordAt, notedSet, WordPut, SetPut};
 
 // The word in two bytes.
 pub fn word_at(bytes: &[u8], i: usize) -> usize
@@ -33,7 +27,7 @@ pub fn put_word(bytes: &mut [u8], i: usize, word: usize)
 // The set in four bytes.
 pub fn noted_set(bytes: &[u8], i: usize) -> u32
     requires { ⌜ i + 4 ≤ length (now bytes) ⌝ }
-    ensures { λ r. ⌜ r ≡ setAt (now (bytes .entry)) i ⌝ }
+    ensures { λ r. ⌜ r ≡ notedSet (now (bytes .entry)) i ⌝ }
 {
     let low = word_at(bytes, i);
     let high = word_at(bytes, i + 2);

@@ -1,8 +1,8 @@
 -- `put_set` meets its contract: the set's two words are put. Assumes nothing.
 use borrow.Author.Needs.{needs}
-use Rattle.steps.proofs.NoteWords.{set-put}
-use Rattle.steps.proofs.note_words.put_set.Statement.{statement}
-use Rattle.steps.proofs.note_words.put_set.Tie as tie
+use Rattle.terms.proofs.BytesPut.{set-put}
+use Rattle.terms.proofs.bytes.put_set.Statement.{statement}
+use Rattle.terms.proofs.bytes.put_set.Tie as tie
 
 cast-put-word : tie.Need-cast-put-word
 cast-put-word c = search needs

@@ -1,25 +1,21 @@
 -- Places as they are noted: only those of the variables that are bound. One variable more, as the set is made, as they are put and as they are taken.
-use Prim.Native.Nat.{ℕ, zero, suc, _+_, _^_, _≤_, _<_}
-use native.Mathlib.Nat.{add-zero}
+use Prim.Native.Nat.{ℕ, zero, suc, _+_, _/_, _%_, _^_, _≤_, _<_}
+use native.Mathlib.Nat.{add-zero, div-one, pow-succ'}
 use native.Mathlib.Numerals.{add-one}
 use native.Mathlib.Omega.{arith}
 use native.Mathlib.Decide.{ℕ-discrete, decLt}
-use mathlib.Core.Path.{_≡_, refl, sym, subst, fun-ext, _∙_}
+use mathlib.Core.Path.{_≡_, refl, sym, subst, _∙_}
 use mathlib.Core.Logic.{_⊎_, inl, inr, ⊎-elim}
 use mathlib.Core.List.{List}
-use mathlib.Core.Option.{Option}
-use lib.ListN.{length, getD, set, replicate, length-set, getD-replicate, List·getD-eq-default}
+use lib.ListN.{length, getD, set, replicate, length-set, getD-replicate}
 use lib.Seq.{getD-set-same, getD-set-other}
 use lib.Bits.{bitOr}
-use borrow.Author.Tests.{le-ltb}
+use lib.Count.{ones, ones-step, ones-le}
 use Rattle.terms.specs.Mask.{markOf, Has, Marks}
-use Rattle.terms.specs.Term.{Term, var}
-use Rattle.terms.specs.Store.{noPlace, bound, Stands}
-use Rattle.terms.specs.Unified.{Unified}
-use Rattle.terms.proofs.Comparing.{same-inside}
-use Rattle.terms.proofs.Masks.{has-decided, has-none, has-or, has-one, mark-any-or-ground}
-use Rattle.steps.specs.NotedPlaces.{allVariables, IsBound, countOf, Coded, PlacesPut}
-use Rattle.steps.proofs.NoteWords.{put-then, byte-put}
+use Rattle.terms.specs.Store.{allVariables, noPlace}
+use Rattle.terms.proofs.Masks.{has-none, has-or, has-one, halved, mark-any-or-ground}
+use Rattle.terms.specs.Noted.{IsBound, countOf, Coded, PlacesPut}
+use Rattle.terms.proofs.BytesPut.{put-then, byte-put}
 
 -- how many variables of a set are among the first
 pub count-zero : (s : ℕ) → countOf s 0 ≡ 0
@@ -46,6 +42,19 @@ count-up s x (suc y) l = at (decLt x (suc y)) (count-up s x y)
 
 pub count-above : (s x y : ℕ) → x < y → Has s x → countOf s x < countOf s y
 count-above s x y l h = omega (arith, count-in s x h, count-up s (x + 1) y (omega arith))
+
+-- the first variable, and those behind it
+count-first : (s x : ℕ) → countOf s (suc x) ≡ s % 2 + countOf (s / 2) x
+count-first s zero = omega (arith, count-suc s 0, count-zero s, count-zero (s / 2), div-one s)
+count-first s (suc x) =
+    let e : markOf (s / 2) x ≡ markOf s (suc x) = rw halved in
+    omega (arith, count-suc s (suc x), count-suc (s / 2) x, count-first s x)
+
+-- all variables of a set: as many as it has ones
+pub count-ones : (k s : ℕ) → s < 2 ^ k → countOf s k ≡ ones s
+count-ones zero s small = omega (arith, count-zero s, ones-le 0 s small)
+count-ones (suc k) s small =
+    omega (arith, count-first s k, ones-step s, count-ones k (s / 2) (let p = pow-succ' 2 k in omega arith))
 
 -- the set of the bound variables, of those before x
 pub bound-none : (places : List ℕ) → Marks (λ v. (v < 0) × (getD places v 0 < noPlace)) 0
@@ -78,8 +87,8 @@ one-more {P} {x} before at v l = go (ℕ-discrete v x)
     go (no n) = before v (omega arith)
 
 -- only the bytes that have the places matter
-pub coded-stays : {unifiers unifiers′ places : List ℕ} {s from upto : ℕ} → ((i : ℕ) → from ≤ i → i < from + countOf s upto → getD unifiers′ i 0 ≡ getD unifiers i 0)
-    → Coded unifiers places s from upto → Coded unifiers′ places s from upto
+pub coded-stays : {bytes bytes′ places : List ℕ} {s from upto : ℕ} → ((i : ℕ) → from ≤ i → i < from + countOf s upto → getD bytes′ i 0 ≡ getD bytes i 0)
+    → Coded bytes places s from upto → Coded bytes′ places s from upto
 coded-stays {s = s} {from = from} {upto = upto} same c =
     record {
       noted = λ x l h. c .noted x l h ∙ sym (same (from + countOf s x) (omega arith) (omega (arith, count-above s x upto l h)));
@@ -87,27 +96,27 @@ coded-stays {s = s} {from = from} {upto = upto} same c =
     }
 
 -- places put: none, and one variable more
-pub put-none : (places unifiers : List ℕ) (s at : ℕ) → PlacesPut places unifiers unifiers s at 0
-put-none places unifiers s at =
+pub put-none : (places bytes : List ℕ) (s at : ℕ) → PlacesPut places bytes bytes s at 0
+put-none places bytes s at =
     record { put = record { size = refl; earlier = λ j l. refl; later = λ j l. refl }; noted = λ x l. absurd (omega arith) }
 
-module _ {places before unifiers : List ℕ} {s at x : ℕ} (p : PlacesPut places before unifiers s at x) where
-  pub put-out : (Has s x → ⊥) → PlacesPut places before unifiers s at (x + 1)
+module _ {places before bytes : List ℕ} {s at x : ℕ} (p : PlacesPut places before bytes s at x) where
+  pub put-out : (Has s x → ⊥) → PlacesPut places before bytes s at (x + 1)
   put-out n = record { put = rw (count-out s x n) (p .put); noted = one-more (p .noted) (λ h. absurd (n h)) }
 
-  pub put-in : (end : ℕ) → end ≡ at + countOf s x → end < length unifiers → Has s x
-      → PlacesPut places before (set unifiers end (getD places x 0)) s at (x + 1)
+  pub put-in : (end : ℕ) → end ≡ at + countOf s x → end < length bytes → Has s x
+      → PlacesPut places before (set bytes end (getD places x 0)) s at (x + 1)
   put-in end is room h =
       record {
-        put = put-then (p .put) (byte-put unifiers end (getD places x 0)) is (count-in s x h);
+        put = put-then (p .put) (byte-put bytes end (getD places x 0)) is (count-in s x h);
         noted = one-more
-            (λ v l o. p .noted v l o ∙ sym (getD-set-other unifiers end (at + countOf s v) (getD places x 0) 0 (λ e. omega (arith, count-above s v x l o))))
-            (λ o. rw (← is) (sym (getD-set-same unifiers end (getD places x 0) 0 room)));
+            (λ v l o. p .noted v l o ∙ sym (getD-set-other bytes end (at + countOf s v) (getD places x 0) 0 (λ e. omega (arith, count-above s v x l o))))
+            (λ o. rw (← is) (sym (getD-set-same bytes end (getD places x 0) 0 room)));
       }
 
 -- all places that are put are those of the bound variables
-pub put-coded : {places before unifiers : List ℕ} {s at : ℕ} → Marks (IsBound places) s → PlacesPut places before unifiers s at allVariables
-    → Coded unifiers places s at allVariables
+pub put-coded : {places before bytes : List ℕ} {s at : ℕ} → Marks (IsBound places) s → PlacesPut places before bytes s at allVariables
+    → Coded bytes places s at allVariables
 put-coded {places} {s = s} m p = record { noted = p .noted; unbound = λ x l n. at x l n (decLt (getD places x 0) noPlace) }
   where
     at : (x : ℕ) → x < allVariables → (Has s x → ⊥) → Dec (getD places x 0 < noPlace) → noPlace ≤ getD places x 0
@@ -115,21 +124,21 @@ put-coded {places} {s = s} m p = record { noted = p .noted; unbound = λ x l n. 
     at x l n (no b) = omega arith
 
 -- the places of the first x variables are taken, and the others are unbound
-pub record Taking (unifiers places : List ℕ) (s from x : ℕ) : Type 0 where
+pub record Taking (bytes places : List ℕ) (s from x : ℕ) : Type 0 where
   pub all-places : length places ≡ allVariables
-  pub coded : Coded unifiers places s from x
+  pub coded : Coded bytes places s from x
   pub others : (v : ℕ) → x ≤ v → v < allVariables → getD places v 0 ≡ noPlace
 
-pub taking-none : (unifiers : List ℕ) (s from : ℕ) → Taking unifiers (replicate allVariables noPlace) s from 0
-taking-none unifiers s from =
+pub taking-none : (bytes : List ℕ) (s from : ℕ) → Taking bytes (replicate allVariables noPlace) s from 0
+taking-none bytes s from =
     record {
       all-places = refl;
       coded = record { noted = λ x l. absurd (omega arith); unbound = λ x l. absurd (omega arith) };
       others = λ v h l. getD-replicate allVariables v noPlace 0 l;
     }
 
-module _ {unifiers places : List ℕ} {s from x : ℕ} (t : Taking unifiers places s from x) (more : x < allVariables) where
-  pub taking-out : (Has s x → ⊥) → Taking unifiers places s from (x + 1)
+module _ {bytes places : List ℕ} {s from x : ℕ} (t : Taking bytes places s from x) (more : x < allVariables) where
+  pub taking-out : (Has s x → ⊥) → Taking bytes places s from (x + 1)
   taking-out n =
       record {
         all-places = t .all-places;
@@ -140,7 +149,7 @@ module _ {unifiers places : List ℕ} {s from x : ℕ} (t : Taking unifiers plac
         others = λ v h l. t .others v (omega arith) l;
       }
 
-  pub taking-in : (w : ℕ) → w ≡ getD unifiers (from + countOf s x) 0 → Has s x → Taking unifiers (set places x w) s from (x + 1)
+  pub taking-in : (w : ℕ) → w ≡ getD bytes (from + countOf s x) 0 → Has s x → Taking bytes (set places x w) s from (x + 1)
   taking-in w is o =
       record {
         all-places = length-set places x w ∙ t .all-places;
@@ -153,36 +162,3 @@ module _ {unifiers places : List ℕ} {s from x : ℕ} (t : Taking unifiers plac
     where
       same : (v : ℕ) → (v ≡ x → ⊥) → getD (set places x w) v 0 ≡ getD places v 0
       same v n = getD-set-other places x v w 0 n
-
--- the bindings of a store are those of every list that has the same places: a place that is none says nothing but that its variable is unbound
-abbrev AsPlaces : ℕ → ℕ → Type 0
-AsPlaces p p′ = (p′ ≡ p) ⊎ ((noPlace ≤ p) × (noPlace ≤ p′))
-
-module _ {functions a b : List ℕ} {A B : Term} {places sets : List ℕ} (u : Unified functions a b A B places sets) (places′ : List ℕ)
-    (same : (x : ℕ) → AsPlaces (getD places x noPlace) (getD places′ x noPlace)) where
-  bound-as : bound functions a b places ≡ bound functions a b places′
-  bound-as = fun-ext (λ x. ⊎-elim
-      (λ e. rw e refl)
-      (λ n. rw (le-ltb (getD places x noPlace) noPlace (n .0), le-ltb (getD places′ x noPlace) noPlace (n .1)) refl)
-      (same x))
-
-  pub unified-as : length places′ ≡ allVariables → Unified functions a b A B places′ sets
-  unified-as size =
-      record {
-        σ = u .σ;
-        stands = λ x. subst (λ (f : ℕ → Option Term). Stands f (var x) (u .σ x)) bound-as (u .stands x);
-        most-general = u .most-general;
-        sets-right = u .sets-right;
-        all-places = size;
-        whole = λ x l. ⊎-elim (λ e. rw e (u .whole x (rw e at l))) (λ n. absurd (omega (arith, n .1))) (same x);
-      }
-
--- places that are noted are the same in every list that has them
-pub coded-once : {unifiers places places′ : List ℕ} {s from : ℕ} → Coded unifiers places s from allVariables → Coded unifiers places′ s from allVariables
-    → length places ≡ allVariables → length places′ ≡ allVariables → (x : ℕ) → AsPlaces (getD places x noPlace) (getD places′ x noPlace)
-coded-once {places = places} {places′ = places′} {s = s} c c′ size size′ x = at (decLt x allVariables) (has-decided s x)
-  where
-    at : Dec (x < allVariables) → Dec (Has s x) → AsPlaces (getD places x noPlace) (getD places′ x noPlace)
-    at (no n) h = inl (List·getD-eq-default places′ noPlace {n = x} (omega arith) ∙ sym (List·getD-eq-default places noPlace {n = x} (omega arith)))
-    at (yes l) (yes h) = rw (same-inside places x noPlace 0 (omega arith), same-inside places′ x noPlace 0 (omega arith)) (inl (c′ .noted x l h ∙ sym (c .noted x l h)))
-    at (yes l) (no n) = rw (same-inside places x noPlace 0 (omega arith), same-inside places′ x noPlace 0 (omega arith)) (inr (c .unbound x l n, c′ .unbound x l n))

@@ -5,17 +5,18 @@ use native.Mathlib.Omega.{arith}
 use mathlib.Core.Logic.{⊎-elim}
 use mathlib.Core.Path.{_≡_, ap}
 use lib.ListN.{getD}
-use Rattle.steps.specs.NotedPlaces.{allVariables, countOf}
-use Rattle.steps.proofs.CodedPlaces.{count-zero, count-above, count-in, count-out, Taking, taking-none, taking-out, taking-in}
-use Rattle.steps.proofs.noted_places.take_places.Statement.{statement}
-use Rattle.steps.proofs.noted_places.take_places.Tie as tie
+use Rattle.terms.specs.Store.{allVariables}
+use Rattle.terms.specs.Noted.{countOf}
+use Rattle.terms.proofs.CodedPlaces.{count-zero, count-above, count-in, count-out, Taking, taking-none, taking-out, taking-in}
+use Rattle.terms.proofs.noted.take_places.Statement.{statement}
+use Rattle.terms.proofs.noted.take_places.Tie as tie
 
 abbrev Inv-loop : tie.InvT-loop
-Inv-loop unifiers set from places₀ end₀ x₀ places end x =
-    (x ≤ allVariables) × (end ≡ from + countOf set x) × Taking unifiers places set from x
+Inv-loop bytes set from places₀ end₀ x₀ places end x =
+    (x ≤ allVariables) × (end ≡ from + countOf set x) × Taking bytes places set from x
 
 abbrev μ-loop : tie.MeasureT-loop
-μ-loop unifiers set from places₀ end₀ x₀ places end x = allVariables - x
+μ-loop bytes set from places₀ end₀ x₀ places end x = allVariables - x
 
 loop-holds : tie.Need-loop-holds Inv-loop μ-loop
 loop-holds c = (omega arith, omega (arith, count-zero (c .before .before .args .set)), taking-none _ _ _)
@@ -62,7 +63,7 @@ loop-again c =
           (λ w. omega (arith, w .2, inv .1, count-out set x (λ h. rw (w .0 .left) at (here .1 h))))
           (c .if1 .came),
       ⊎-elim
-          (λ w. rw (w .2) (taking-in (inv .2) more _ (ap (λ (i : ℕ). getD (st .args .unifiers .now) i 0) (inv .1)) (here .0 (rw (w .0 .taken) tt))))
+          (λ w. rw (w .2) (taking-in (inv .2) more _ (ap (λ (i : ℕ). getD (st .args .bytes .now) i 0) (inv .1)) (here .0 (rw (w .0 .taken) tt))))
           (λ w. rw (w .1) (taking-out (inv .2) more (λ h. rw (w .0 .left) at (here .1 h))))
           (c .if1 .came),
     )

@@ -5,12 +5,11 @@ use native.Mathlib.Omega.{arith}
 use mathlib.Core.Logic.{⊎-elim}
 use mathlib.Core.Path.{_≡_}
 use lib.ListN.{getD}
 use Rattle.terms.specs.Mask.{Marks}
-use Rattle.terms.specs.Store.{noPlace}
-use Rattle.steps.specs.NotedPlaces.{allVariables}
-use Rattle.steps.proofs.CodedPlaces.{bound-none, bound-more, bound-same}
-use Rattle.steps.proofs.noted_places.bound_set.Statement.{statement}
-use Rattle.steps.proofs.noted_places.bound_set.Tie as tie
+use Rattle.terms.specs.Store.{allVariables, noPlace}
+use Rattle.terms.proofs.CodedPlaces.{bound-none, bound-more, bound-same}
+use Rattle.terms.proofs.noted.bound_set.Statement.{statement}
+use Rattle.terms.proofs.noted.bound_set.Tie as tie
 
 abbrev Inv-loop : tie.InvT-loop
 Inv-loop places set₀ x₀ set x = (x ≤ allVariables) × Marks (λ v. (v < x) × (getD places v 0 < noPlace)) set

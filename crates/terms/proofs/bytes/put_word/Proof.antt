@@ -2,9 +2,9 @@
 use native.Mathlib.Omega.{arith}
 use lib.ListN.{length-set}
 use borrow.Author.Needs.{needs}
-use Rattle.steps.proofs.NoteWords.{word-put}
-use Rattle.steps.proofs.note_words.put_word.Statement.{statement}
-use Rattle.steps.proofs.note_words.put_word.Tie as tie
+use Rattle.terms.proofs.BytesPut.{word-put}
+use Rattle.terms.proofs.bytes.put_word.Statement.{statement}
+use Rattle.terms.proofs.bytes.put_word.Tie as tie
 
 cast-bytes : tie.Need-cast-bytes
 cast-bytes c = search needs

@@ -4,17 +4,18 @@ use Prim.Native.Nat.{_+_, _-_, _≤_}
 use native.Mathlib.Omega.{arith}
 use mathlib.Core.Logic.{⊎-elim}
 use mathlib.Core.Path.{_≡_}
-use Rattle.steps.specs.NotedPlaces.{allVariables, countOf, PlacesPut}
-use Rattle.steps.proofs.CodedPlaces.{count-zero, count-above, count-in, count-out, put-none, put-out, put-in}
-use Rattle.steps.proofs.noted_places.put_places.Statement.{statement}
-use Rattle.steps.proofs.noted_places.put_places.Tie as tie
+use Rattle.terms.specs.Store.{allVariables}
+use Rattle.terms.specs.Noted.{countOf, PlacesPut}
+use Rattle.terms.proofs.CodedPlaces.{count-zero, count-above, count-in, count-out, put-none, put-out, put-in}
+use Rattle.terms.proofs.noted.put_places.Statement.{statement}
+use Rattle.terms.proofs.noted.put_places.Tie as tie
 
 abbrev Inv-loop : tie.InvT-loop
-Inv-loop places set unifiers₀ at end₀ x₀ unifiers end x =
-    (x ≤ allVariables) × (end ≡ at + countOf set x) × PlacesPut places unifiers₀ unifiers set at x
+Inv-loop places set bytes₀ at end₀ x₀ bytes end x =
+    (x ≤ allVariables) × (end ≡ at + countOf set x) × PlacesPut places bytes₀ bytes set at x
 
 abbrev μ-loop : tie.MeasureT-loop
-μ-loop places set unifiers₀ at end₀ x₀ unifiers end x = allVariables - x
+μ-loop places set bytes₀ at end₀ x₀ bytes end x = allVariables - x
 
 loop-holds : tie.Need-loop-holds Inv-loop μ-loop
 loop-holds c = (omega arith, omega (arith, count-zero (c .before .args .set)), put-none _ _ _ _)
@@ -22,11 +23,11 @@ loop-holds c = (omega arith, omega (arith, count-zero (c .before .args .set)), p
 has-requires : tie.Need-has-requires Inv-loop μ-loop
 has-requires c κs = omega arith
 
-element-copy-out-unifiers : tie.Need-element-copy-out-unifiers Inv-loop μ-loop
-element-copy-out-unifiers c = omega arith
+element-copy-out-bytes : tie.Need-element-copy-out-bytes Inv-loop μ-loop
+element-copy-out-bytes c = omega arith
 
-slice-write-unifiers : tie.Need-slice-write-unifiers Inv-loop μ-loop
-slice-write-unifiers c =
+slice-write-bytes : tie.Need-slice-write-bytes Inv-loop μ-loop
+slice-write-bytes c =
     let st = c .before .before .before .before .before .before in
     let inv = c .before .before .before .before .loop .inv in
     let x = c .before .before .before .before .loop .x in
@@ -83,8 +84,8 @@ put-places-spec =
     μ-loop
     loop-holds
     has-requires
-    element-copy-out-unifiers
-    slice-write-unifiers
+    element-copy-out-bytes
+    slice-write-bytes
     add-end
     add-x
     loop-less

@@ -5,14 +5,14 @@ use mathlib.Core.Path.{_≡_, refl, _∙_}
 use mathlib.Core.List.{List}
 use lib.ListN.{length, getD, set, length-set}
 use lib.Seq.{getD-set-same, getD-set-other}
-use Rattle.steps.specs.NoteWords.{wordAt, setAt, BytesPut, WordPut, SetPut}
+use Rattle.terms.specs.Bytes.{wordAt, notedSet, BytesPut, WordPut, SetPut}
 
 pub word-is : (bytes : List ℕ) (i : ℕ) → wordAt bytes i ≡ getD bytes i 0 + 256 * getD bytes (i + 1) 0
 unfolding wordAt
 word-is bytes i = refl
 
-pub set-is : (bytes : List ℕ) (i : ℕ) → setAt bytes i ≡ wordAt bytes i + 65536 * wordAt bytes (i + 2)
-unfolding setAt
+pub set-is : (bytes : List ℕ) (i : ℕ) → notedSet bytes i ≡ wordAt bytes i + 65536 * wordAt bytes (i + 2)
+unfolding notedSet
 set-is bytes i = refl
 
 -- only the bytes of a word matter, and those of a set
@@ -20,7 +20,7 @@ pub word-stays : (bytes bytes′ : List ℕ) (i : ℕ) → ((j : ℕ) → i ≤ 
 word-stays bytes bytes′ i same =
     omega (arith, word-is bytes i, word-is bytes′ i, same i (omega arith) (omega arith), same (i + 1) (omega arith) (omega arith))
 
-pub set-stays : (bytes bytes′ : List ℕ) (i : ℕ) → ((j : ℕ) → i ≤ j → j < i + 4 → getD bytes′ j 0 ≡ getD bytes j 0) → setAt bytes′ i ≡ setAt bytes i
+pub set-stays : (bytes bytes′ : List ℕ) (i : ℕ) → ((j : ℕ) → i ≤ j → j < i + 4 → getD bytes′ j 0 ≡ getD bytes j 0) → notedSet bytes′ i ≡ notedSet bytes i
 set-stays bytes bytes′ i same =
     let low : wordAt bytes′ i ≡ wordAt bytes i = word-stays bytes bytes′ i (λ j l h. same j l (omega arith)) in
     let high : wordAt bytes′ (i + 2) ≡ wordAt bytes (i + 2) = word-stays bytes bytes′ (i + 2) (λ j l h. same j (omega arith) (omega arith)) in

@@ -1,9 +1,9 @@
 -- `noted_set` meets its contract: a set is its two words. Assumes nothing.
 use native.Mathlib.Omega.{arith}
 use borrow.Author.Needs.{needs}
-use Rattle.steps.proofs.NoteWords.{set-is}
-use Rattle.steps.proofs.note_words.noted_set.Statement.{statement}
-use Rattle.steps.proofs.note_words.noted_set.Tie as tie
+use Rattle.terms.proofs.BytesPut.{set-is}
+use Rattle.terms.proofs.bytes.noted_set.Statement.{statement}
+use Rattle.terms.proofs.bytes.noted_set.Tie as tie
 
 word-at-requires : tie.Need-word-at-requires
 word-at-requires c κs = search needs
