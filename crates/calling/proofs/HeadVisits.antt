@@ -10,7 +10,7 @@ use lib.ListN.{length, getD}
 use Rattle.terms.specs.Term.{Occ}
 use Rattle.terms.specs.Mask.{Has, Marks}
 use Rattle.terms.proofs.Masks.{has-none}
-use Rattle.marks.specs.Modes.{Kept}
+use Rattle.marks.specs.Modes.{KeptTo}
 use Rattle.marks.specs.Passing.{VariablesOf}
 use Rattle.marks.proofs.Modes.{kept-unique}
 use Rattle.marks.proofs.Passing.{pass-within}
@@ -31,7 +31,7 @@ use Rattle.calling.proofs.ShapeVisits.{clause-in-dir, head-stands, head
 
 -- marks that a call row passes to a head are on the head's variables
 pub reached-kept : (p : Program) (table : List ℕ) (since rows : ℕ) {k : ℕ} {c : Clause} → Nth (p .clauses) k c → (N : ℕ)
-    → ReachedSince p table since rows k 0 N → Kept (λ v. Occ v (c .head)) N N
+    → ReachedSince p table since rows k 0 N → KeptTo (λ v. Occ v (c .head)) N N
 reached-kept p table since rows {k} {c} hc N (s, M, new, opens hc′ hs passed) v = (λ h. (within h, h), λ h. h .1)
   where
     within : Has N v → Occ v (c .head)

@@ -8,7 +8,7 @@ use Rattle.terms.specs.Term.{Term, Terms}
 use Rattle.terms.specs.Cells.{enc, encs, atomCells, Run}
 use Rattle.terms.specs.Walk.{cellsOf}
 use Rattle.terms.proofs.Runs.{run-terms}
-use Rattle.terms.proofs.Places.{part-from}
+use Rattle.terms.proofs.Parts.{part-from}
 use Rattle.directory.specs.Directory.{Stands-at}
 use Rattle.directory.specs.From.{Atom-from}
 use Rattle.directory.proofs.Cuts.{cut-within, cut-part, word-within, word-at, word-behind}

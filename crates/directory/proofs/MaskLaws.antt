@@ -9,7 +9,7 @@ use Rattle.terms.specs.Cells.{variables, enc}
 use Rattle.terms.specs.Mask.{Has, Marks}
 use Rattle.terms.specs.Walk.{InRun, Cells, Present}
 use Rattle.terms.proofs.Masks.{marks-below}
-use Rattle.terms.proofs.Binding.{atom-variables}
+use Rattle.terms.proofs.RunVariables.{atom-variables}
 use Rattle.directory.specs.Lists.{Variables-at}
 use Rattle.directory.proofs.Cuts.{middle-part}
 use Rattle.directory.proofs.TermCells.{atom-all-cells, atom-in-run}

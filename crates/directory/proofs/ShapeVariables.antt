@@ -9,7 +9,7 @@ use lib.ListN.{length, length-append, length-map}
 use Rattle.terms.specs.Term.{Term, Terms, var, app, nil, cons, Occ}
 use Rattle.terms.specs.Cells.{variables, Atom}
 use Rattle.terms.proofs.Substs.{occ-sub, sub-occ}
-use Rattle.terms.proofs.Binding.{atom-variables}
+use Rattle.terms.proofs.RunVariables.{atom-variables}
 use Rattle.program.specs.Shapes.{place, with, met, mets, number, shapeOf}
 use Rattle.program.specs.Within.{after, afters, Numbered, Numbereds}
 use Rattle.program.proofs.ShapeLaws.{place-nth, met-has, member-decided, met-occurs}

@@ -10,7 +10,7 @@ use borrow.Author.Tests.{lt-ltb, le-ltb}
 use Rattle.terms.specs.Term.{Term, Terms, var, app, nil, cons, sub, subs, Occ, Occs}
 use Rattle.terms.specs.Cells.{firstVariable, enc, encs, Keeps, Keepss, Atom}
 use Rattle.terms.specs.Walk.{InRun, Cells}
-use Rattle.terms.proofs.Binding.{in-run-occs, cells-encs}
+use Rattle.terms.proofs.RunVariables.{in-run-occs, cells-encs}
 use Rattle.program.specs.Limits.{maxDeclared}
 use Rattle.program.specs.Shapes.{with, met, mets}
 use Rattle.directory.specs.Numbers.{metCell, metCells, renamed}

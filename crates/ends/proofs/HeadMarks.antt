@@ -12,9 +12,9 @@ use Rattle.terms.specs.Cells.{Atom}
 use Rattle.terms.proofs.Masks.{has-none, marks-for, marks-below}
 use Rattle.terms.proofs.Substs.{occ-all, all-occ}
 use Rattle.terms.proofs.Variables.{occ-decided}
-use Rattle.terms.proofs.Binding.{atom-variables}
+use Rattle.terms.proofs.RunVariables.{atom-variables}
 use Rattle.marks.specs.Pass.{Known, Pass}
-use Rattle.marks.specs.Modes.{modes, Kept}
+use Rattle.marks.specs.Modes.{modes, KeptTo}
 use Rattle.marks.proofs.Modes.{keptOf, keptOf-kept}
 use Rattle.program.specs.Program.{Clause, Program}
 use Rattle.program.specs.Limits.{masks}
@@ -50,7 +50,7 @@ EndsBy p ks₀ marked from ks k =
     (N : ℕ) × NewOnHead modes p (RowsIn p ks₀) (RowsIn p marked) k N × (s : ℕ) × (C : ℕ) × New modes p (RowsIn p from) (RowsIn p ks) (call s C) × EndsIn modes p k N s C row)
 
 -- marks of other variables than the head's pass nothing on
-module _ (H S : Term) (N q C R : ℕ) (k : Kept (λ v. Occ v H) N q) where
+module _ (H S : Term) (N q C R : ℕ) (k : KeptTo (λ v. Occ v H) N q) where
   known-kept : (α : Subst) (z : ℕ) → Known H N α z ↔ Known H q α z
   known-kept α z = (λ (x, o, h, d). (x, o, k x .1 (o, h), d), λ (x, o, h, d). (x, o, k x .0 h .1, d))
 
@@ -112,7 +112,7 @@ module _ (words dir table heads : List ℕ) (since rows k : ℕ) (w : HeadAsked 
   head-atom = head-is-atom (w .situation .setting) (w .clause .nth-clause)
 
   -- marks that result are a head mark, kept to the head's variables
-  head-mark : (since′ marked i N : ℕ) → ReachedSince p table since′ marked k i N → (q : ℕ) × (q < masks) × Kept (λ v. Occ v (c .head)) N q × HeadMark p table since′ marked k i q
+  head-mark : (since′ marked i N : ℕ) → ReachedSince p table since′ marked k i N → (q : ℕ) × (q < masks) × KeptTo (λ v. Occ v (c .head)) N q × HeadMark p table since′ marked k i q
   head-mark since′ marked i N reached =
       let q = keptOf (λ v. Occ v (c .head)) (λ v. occ-decided v (c .head)) N in
       let kept = keptOf-kept (λ v. Occ v (c .head)) (λ v. occ-decided v (c .head)) N in (

@@ -8,7 +8,7 @@ use lib.ListN.{length, getD, take, drop}
 use Rattle.terms.specs.Term.{Term}
 use Rattle.terms.specs.Cells.{encs, Atom}
 use Rattle.terms.specs.Walk.{Cells, Present}
-use Rattle.terms.proofs.Binding.{cells-encs}
+use Rattle.terms.proofs.RunVariables.{cells-encs}
 use Rattle.marks.specs.Pass.{Pass}
 use Rattle.marks.specs.Passing.{VariablesOf}
 use Rattle.marks.proofs.AtomVariables.{present-small, present-variables}

@@ -7,7 +7,7 @@ use mathlib.Core.Logic.{_⊎_, inl, inr, ⊎-elim, _↔_}
 use mathlib.Core.List.{List}
 use lib.ListN.{length, getD, replicate}
 use Rattle.terms.specs.Mask.{Has}
-use Rattle.marks.specs.Modes.{modes, Together, Kept}
+use Rattle.marks.specs.Modes.{modes, Together, KeptTo}
 use Rattle.program.specs.Program.{Program}
 use Rattle.program.specs.Limits.{rowSize}
 use Rattle.rows.specs.Rows.{slotAt, maskAt, beforeAt, keysOf}
@@ -94,7 +94,7 @@ module _ {dir order table answers seen : List ℕ} {count rows j mask upto n : �
 
 -- one answer more into the set
 pub answer-marked : (mask : ℕ) (answers : List ℕ) (there x N K : ℕ) (new : Bool) (found found′ found″ : List ℕ) → x < length answers → Together mask (getD answers x 0) N
-    → Kept (Has there) N K → length found″ ≡ setWords → Inserted found′ found″ K new → Collected (KeptOf there (JoinedWith mask answers x)) found found′
+    → KeptTo (Has there) N K → length found″ ≡ setWords → Inserted found′ found″ K new → Collected (KeptOf there (JoinedWith mask answers x)) found found′
     → Collected (KeptOf there (JoinedWith mask answers (x + 1))) found found″
 answer-marked mask answers there x N K new found found′ found″ less joined kept size ins m =
     let split = kept-split there (JoinedWith mask answers x) (λ N′. N′ ≡ N) (JoinedWith mask answers (x + 1)) (joined-more mask answers x N less joined) in

@@ -9,7 +9,7 @@ use mathlib.Core.List.{List, [], _∷_, _++_, List·Memᴰ, List·Memᴰ·head, 
 use lib.ListN.{length, take, drop, getD, take-append-drop}
 use lib.Seq.{take-suc, take-take}
 use Rattle.terms.specs.Mask.{Has}
-use Rattle.marks.specs.Modes.{Together, Kept}
+use Rattle.marks.specs.Modes.{Together, KeptTo}
 use Rattle.marks.proofs.Modes.{together-unique, kept-unique}
 use Rattle.program.specs.Program.{Program}
 use Rattle.rows.specs.Rows.{slotAt, maskAt, beforeAt}
@@ -111,7 +111,7 @@ kept-split there Some Others Both split q = (
   ⊎-elim (λ (N, a, k). (N, split N .1 (inl a), k)) (λ (N, b, k). (N, split N .1 (inr b), k)),
 )
 
-pub kept-one : (there N K : ℕ) → Kept (Has there) N K → (q : ℕ) → (q ≡ K) ↔ KeptOf there (λ N′. N′ ≡ N) q
+pub kept-one : (there N K : ℕ) → KeptTo (Has there) N K → (q : ℕ) → (q ≡ K) ↔ KeptOf there (λ N′. N′ ≡ N) q
 kept-one there N K kept q = (
   λ e. (N, refl, rw e kept),
   λ (N′, e, k). kept-unique (Has there) N q K (rw e at k) kept,

@@ -9,7 +9,7 @@ use lib.ListN.{length, getD, set, take, drop, replicate, length-set, length-repl
 use lib.Seq.{getD-set-same, getD-set-other, take-take}
 use Rattle.terms.specs.Term.{Term}
 use Rattle.terms.proofs.Masks.{has-none, marks-unique}
-use Rattle.terms.proofs.Binding.{atom-variables}
+use Rattle.terms.proofs.RunVariables.{atom-variables}
 use Rattle.terms.specs.Mask.{Has}
 use Rattle.marks.specs.Pass.{Pass}
 use Rattle.marks.specs.Modes.{InOrder, Reordered, Restored}

@@ -7,7 +7,7 @@ use mathlib.Core.List.{List, List·Memᴰ, List·Memᴰ·not-nil}
 use lib.ListN.{length, take, drop, getD}
 use Rattle.terms.specs.Term.{Occ}
 use Rattle.terms.specs.Mask.{Has, Marks}
-use Rattle.marks.specs.Modes.{modes, Kept, InOrder}
+use Rattle.marks.specs.Modes.{modes, KeptTo, InOrder}
 use Rattle.marks.proofs.RowMasks.{kept-by-list}
 use Rattle.program.specs.Program.{Nth, Program}
 use Rattle.program.specs.Shapes.{number}
@@ -85,7 +85,7 @@ module _ {words dir table heads : List ℕ} {since rows j : ℕ} (w : Situation 
           variables : Marks (λ v. Occ v (b .c .head)) head
           variables = rw (same-body (m .situation .setting) (w .setting) (m .body) b .0) at (m .head-variables)
 
-          back : (N q : ℕ) → Kept (λ v. Occ v (b .c .head)) N q → Kept (Has head) N q
+          back : (N q : ℕ) → KeptTo (λ v. Occ v (b .c .head)) N q → KeptTo (Has head) N q
           back N q k v = (λ x. let y = k v .0 x in (variables v .1 (y .0), y .1), λ y. k v .1 (variables v .0 (y .0), y .1))
 
   module _ (m : MiddleAsked words dir table heads since rows j) where

@@ -6,7 +6,7 @@ use mathlib.Core.List.{List, List·Memᴰ}
 use lib.ListN.{length, take}
 use Rattle.terms.specs.Term.{Term}
 use Rattle.terms.specs.Mask.{Has}
-use Rattle.marks.specs.Modes.{modes, Together, Kept}
+use Rattle.marks.specs.Modes.{modes, Together, KeptTo}
 use Rattle.program.specs.Program.{Program}
 use Rattle.program.specs.Limits.{rowSize}
 use Rattle.rows.specs.Rows.{slotAt, maskAt, beforeAt, keysOf}
@@ -37,7 +37,7 @@ RowsOf p k i Such key = (N : ℕ) × Such N × Keyed p (Emitted p k i N) key
 
 -- such marks, kept to the variables `there`
 abbrev pub KeptOf : ℕ → (ℕ → Type 0) → ℕ → Type 0
-KeptOf there Such q = (N : ℕ) × Such N × Kept (Has there) N q
+KeptOf there Such q = (N : ℕ) × Such N × KeptTo (Has there) N q
 
 -- the first `rows` rows of a slot are in a chain from `newest` on
 pub record SlotChain (table : List ℕ) (slot rows newest : ℕ) : Type 0 where

@@ -7,7 +7,7 @@ use Rattle.terms.specs.Term.{Terms, app}
 use Rattle.terms.specs.Cells.{variables, encs, Keepss}
 use Rattle.terms.specs.Walk.{InRun, Cells, Present}
 use Rattle.terms.proofs.Masks.{marks-below, marks-for}
-use Rattle.terms.proofs.Binding.{in-run-occs}
+use Rattle.terms.proofs.RunVariables.{in-run-occs}
 use Rattle.marks.specs.Passing.{VariablesOf}
 
 -- "v is at most 15"

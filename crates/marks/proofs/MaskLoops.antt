@@ -10,7 +10,7 @@ use lib.Bits.{bitOr}
 use Rattle.terms.specs.Cells.{variables}
 use Rattle.terms.specs.Mask.{Has, Marks}
 use Rattle.terms.proofs.Masks.{has-none, has-or, has-one}
-use Rattle.terms.proofs.Replacing.{without-bit}
+use Rattle.terms.proofs.Without.{without-bit}
 
 abbrev pub Done : ℕ → ℕ → ℕ → Type 0
 Done asked left y = Has asked y × (Has left y → ⊥)

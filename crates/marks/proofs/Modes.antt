@@ -9,14 +9,14 @@ use Rattle.terms.proofs.Substs.{ground-sub}
 use Rattle.terms.proofs.Variables.{both-decided, decided-for, some-decided, above, occ-above}
 use Rattle.terms.specs.Mask.{Has}
 use Rattle.marks.specs.Domain.{Sound}
-use Rattle.marks.specs.Modes.{Together, Kept, Renumbered, modes}
+use Rattle.marks.specs.Modes.{Together, KeptTo, Renumbered, modes}
 use Rattle.terms.proofs.Masks.{has-none, has-decided, has-below, width, width-below, has-or, maskOf, maskOf-marks, marks-unique}
 use Rattle.marks.proofs.Passing.{pass-fires, pass-sound}
 
 pub together-unique : (M N R R′ : ℕ) → Together M N R → Together M N R′ → R ≡ R′
 together-unique M N R R′ h h′ = marks-unique (λ v. Has M v ⊎ Has N v) R R′ h h′
 
-pub kept-unique : (P : ℕ → Type 0) (M R R′ : ℕ) → Kept P M R → Kept P M R′ → R ≡ R′
+pub kept-unique : (P : ℕ → Type 0) (M R R′ : ℕ) → KeptTo P M R → KeptTo P M R′ → R ≡ R′
 kept-unique P M R R′ h h′ = marks-unique (λ v. P v × Has M v) R R′ h h′
 
 pub renumbered-unique : (A : Term) (f : ℕ → ℕ) (M R R′ : ℕ) → Renumbered A f M R → Renumbered A f M R′ → R ≡ R′
@@ -27,7 +27,7 @@ unfoldable pub keptOf : (P : ℕ → Type 0) → ((v : ℕ) → Dec (P v)) → �
 unfolding maskOf both-decided has-decided width
 keptOf P decide M = maskOf (λ v. P v × Has M v) (λ v. both-decided (decide v) (has-decided M v)) (width M)
 
-pub keptOf-kept : (P : ℕ → Type 0) (decide : (v : ℕ) → Dec (P v)) (M : ℕ) → Kept P M (keptOf P decide M)
+pub keptOf-kept : (P : ℕ → Type 0) (decide : (v : ℕ) → Dec (P v)) (M : ℕ) → KeptTo P M (keptOf P decide M)
 unfolding keptOf
 keptOf-kept P decide M =
     maskOf-marks (λ v. P v × Has M v) (λ v. both-decided (decide v) (has-decided M v)) (width M)

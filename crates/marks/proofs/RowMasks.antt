@@ -10,10 +10,10 @@ use lib.Bits.{bitOr}
 use Rattle.terms.specs.Term.{Term, Occ}
 use Rattle.terms.specs.Mask.{Has, Marks}
 use Rattle.terms.proofs.Masks.{has-none, has-or, has-one}
-use Rattle.marks.specs.Modes.{Kept, Renumbered, Reordered, Restored, InOrder}
+use Rattle.marks.specs.Modes.{KeptTo, Renumbered, Reordered, Restored, InOrder}
 
 -- a list's mask keeps what the list keeps
-pub kept-by-list : {P : ℕ → Type 0} (list M R : ℕ) → Marks P list → Kept (Has list) M R → Kept P M R
+pub kept-by-list : {P : ℕ → Type 0} (list M R : ℕ) → Marks P list → KeptTo (Has list) M R → KeptTo P M R
 kept-by-list list M R p k v = (
   λ b. let h = k v .0 b in (p v .0 (h .0), h .1),
   λ h. k v .1 (p v .1 (h .0), h .1),

@@ -9,7 +9,7 @@ use lib.Count.{trailingZeros, under}
 use Rattle.terms.specs.Cells.{variables}
 use Rattle.terms.specs.Mask.{Has, Marks}
 use Rattle.terms.proofs.Masks.{halved}
-use Rattle.terms.proofs.Replacing.{bit-within}
+use Rattle.terms.proofs.Without.{bit-within}
 
 first-bit : (m : ℕ) → m / 2 ^ 0 ≡ m
 first-bit m = div-one m

@@ -14,8 +14,8 @@ abbrev pub Together : ℕ → ℕ → ℕ → Type 0
 Together M N R = Marks (λ v. Has M v ⊎ Has N v) R
 
 -- "A cont mask has no bit outside its list."
-abbrev pub Kept : (ℕ → Type 0) → ℕ → ℕ → Type 0
-Kept P M R = Marks (λ v. P v × Has M v) R
+abbrev pub KeptTo : (ℕ → Type 0) → ℕ → ℕ → Type 0
+KeptTo P M R = Marks (λ v. P v × Has M v) R
 
 -- "an atom with its variables renumbered by first appearance": the shape's variable f v is marked where the atom's v is
 abbrev pub Renumbered : Term → (ℕ → ℕ) → ℕ → ℕ → Type 0
@@ -45,7 +45,7 @@ modes =
       none = 0;
       Pass = Pass;
       Join = Together;
-      Keep = Kept;
+      Keep = KeptTo;
       Number = Renumbered;
       Holds = GroundWhere;
     }

@@ -6,7 +6,7 @@ ghost use Prim.Native.Nat.{ℕ, _≤_, _<_};
 ghost use lib.ListN.{getD};
 ghost use Rattle.terms.specs.Cells.{variables};
 ghost use Rattle.terms.specs.Mask.{Has};
-ghost use Rattle.marks.specs.Modes.{Together, Kept, Reordered, Restored};
+ghost use Rattle.marks.specs.Modes.{Together, KeptTo, Reordered, Restored};
 
 // "the cont row's marks together with those that the solution passes"
 pub fn together(m: u16, n: u16) -> u16
@@ -17,7 +17,7 @@ pub fn together(m: u16, n: u16) -> u16
 
 // "A cont mask has no bit outside its list."
 pub fn kept(list: u16, mask: u16) -> u16
-    ensures { λ r. ⌜ Kept (Has list) mask r ⌝ }
+    ensures { λ r. ⌜ KeptTo (Has list) mask r ⌝ }
 {
     list & mask
 }

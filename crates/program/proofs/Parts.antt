@@ -11,7 +11,8 @@ use lib.Dec.{ltb}
 use borrow.Author.Tests.{ltb-true, ltb-false, le-leb, lt-leb}
 use Rattle.terms.specs.declared.cursor.Cursor.{Cursor}
 use Rattle.terms.specs.declared.cursor.Step.the-variants.{Cell, End}
-use Rattle.terms.specs.Cursor.{stepAt, pickStep}
+use Rattle.terms.specs.Cells.{pick}
+use Rattle.terms.specs.Cursor.{stepAt}
 use Rattle.program.specs.Reply.{tooSoon}
 use Rattle.program.specs.Reading.{Decoded, wrong, right, next, bounded, several}
 use Rattle.program.specs.Part.{Meets, itself, none}
@@ -27,7 +28,7 @@ pub record Stands (words : List ℕ) (at w : ℕ) (after : Cursor) : Type 0 wher
 pub step-cell : (words : List ℕ) (at w : ℕ) (after : Cursor) → Cell w after ≡ stepAt words at → Stands words at w after
 step-cell words at w after = by (ltb at (length words)) refl
   where
-    by : (b : Bool) → ltb at (length words) ≡ b → Cell w after ≡ pickStep b (Cell (getD words at 0) (record { at = at + 1 })) End → Stands words at w after
+    by : (b : Bool) → ltb at (length words) ≡ b → Cell w after ≡ pick b (Cell (getD words at 0) (record { at = at + 1 })) End → Stands words at w after
     by true t e =
         let on : after ≡ record { at = at + 1 } = cc in
         record { inside = ltb-true _ _ t; word = cc; on = ap (λ (x : Cursor). x .at) on }
@@ -36,7 +37,7 @@ step-cell words at w after = by (ltb at (length words)) refl
 pub step-end : (words : List ℕ) (at : ℕ) → End ≡ stepAt words at → length words ≤ at
 step-end words at = by (ltb at (length words)) refl
   where
-    by : (b : Bool) → ltb at (length words) ≡ b → End ≡ pickStep b (Cell (getD words at 0) (record { at = at + 1 })) End → length words ≤ at
+    by : (b : Bool) → ltb at (length words) ≡ b → End ≡ pick b (Cell (getD words at 0) (record { at = at + 1 })) End → length words ≤ at
     by true t e = let z : _≡_ {A = ℕ} 0 1 = cc in absurd (omega arith)
     by false t e = ltb-false _ _ t
 

@@ -12,7 +12,7 @@ use Rattle.terms.specs.Mask.{Has}
 use Rattle.terms.proofs.Substs.{all-occ, occ-all}
 use Rattle.terms.proofs.Masks.{has-none, has-or, inside-and, marks-for}
 use Rattle.marks.specs.Pass.{Known, Marked, Pass}
-use Rattle.marks.specs.Modes.{modes, Together, Kept}
+use Rattle.marks.specs.Modes.{modes, Together, KeptTo}
 use Rattle.marks.specs.Passing.{VariablesOf}
 use Rattle.marks.proofs.Passing.{pass-unique}
 use Rattle.program.specs.Program.{Nth, Clause, Program}
@@ -48,7 +48,7 @@ pass-own {A} {B} {M} {R₀} N R passed together =
     out y h = ⊎-elim (λ z. absurd (has-none y z)) inr (passed .result y .0 h)
 
 -- marks pass from an atom's variables alone, so that marks kept to these pass the same
-pub pass-kept : {A B : Term} {N R : ℕ} (M q : ℕ) → Kept (λ v. Occ v A) M q → Pass A q B N R → Pass A M B N R
+pub pass-kept : {A B : Term} {N R : ℕ} (M q : ℕ) → KeptTo (λ v. Occ v A) M q → Pass A q B N R → Pass A M B N R
 pass-kept {A} {B} {N} {R} M q kept passed =
     record {
       α = passed .α;
@@ -126,7 +126,7 @@ module _ {table : List ℕ} {since old newest slot : ℕ} (w : ToShape table sin
     solution-given C R there together =
         let reached = new-reached modes (w .p) (RowsIn (w .p) (keysOf table 0)) (RowsIn (w .p) (keysOf table old)) (w .k) (length (w .c .body)) (head .N) (head .reached) in
         let same = nth-same (head .nth-clause) (w .nth-clause) in
-        let kept : Kept (λ v. Occ v (w .c .head)) (head .N) q = subst (λ (c : Clause). Kept (λ v. Occ v (c .head)) (head .N) q) same (head .kept) in (
+        let kept : KeptTo (λ v. Occ v (w .c .head)) (head .N) q = subst (λ (c : Clause). KeptTo (λ v. Occ v (c .head)) (head .N) q) same (head .kept) in (
           solution (w .s) R,
           solves (w .nth-clause) reached (w .nth-shape) there (pass-kept (head .N) q kept (passes-own C R together)),
           solution-key R,

@@ -7,8 +7,8 @@ use mathlib.Core.List.{List}
 use lib.ListN.{length, getD}
 use Rattle.terms.specs.Cells.{variables}
 use Rattle.terms.specs.Mask.{Has}
-use Rattle.terms.proofs.Binding.{atom-variables}
-use Rattle.marks.specs.Modes.{modes, Kept, Renumbered, Reordered}
+use Rattle.terms.proofs.RunVariables.{atom-variables}
+use Rattle.marks.specs.Modes.{modes, KeptTo, Renumbered, Reordered}
 use Rattle.marks.proofs.RowMasks.{kept-by-list, reordered-renumbered}
 use Rattle.program.specs.Program.{Program}
 use Rattle.program.specs.Shapes.{shapeNumber, number, Listed}
@@ -78,10 +78,10 @@ module _ {dir order : List ℕ} {count j : ℕ} (w : Place dir order count j) wh
       rw (place-there .shape) (omega (arith, nth-below (body-shape (w .p) (w .nth-clause) (w .nth-atom)), d .shape-count, d .shapes-most))
 
   module _ (table buckets ks : List ℕ) (round room n mask listed : ℕ)
-      (kept : Kept (Has (getD dir (bodyList + j) 0)) mask listed)
+      (kept : KeptTo (Has (getD dir (bodyList + j) 0)) mask listed)
       (reached : Reached modes (w .p) (RowsIn (w .p) ks) (w .k) (w .i) mask)
       (writable : Writable table buckets n room) where
-    kept-listed : Kept (Listed (w .c) (w .i)) mask listed
+    kept-listed : KeptTo (Listed (w .c) (w .i)) mask listed
     kept-listed = kept-by-list (getD dir (bodyList + j) 0) mask listed (place-there .list) kept
 
     abbrev ContKey : ℕ → Type 0

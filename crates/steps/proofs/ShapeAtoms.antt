@@ -6,7 +6,7 @@ use mathlib.Core.List.{List}
 use lib.ListN.{length, length-map}
 use Rattle.terms.specs.Term.{Term, Terms, var, app, nil, cons, count, Subst, sub, subs, Occ, Occs}
 use Rattle.terms.specs.Cells.{variables, enc, Keeps, Keepss, Atom}
-use Rattle.terms.proofs.Binding.{atom-variables}
+use Rattle.terms.proofs.RunVariables.{atom-variables}
 use Rattle.program.specs.Limits.{maxDeclared}
 use Rattle.program.specs.Program.{Nth, Program}
 use Rattle.program.specs.Shapes.{number, shapeOf, shapes}

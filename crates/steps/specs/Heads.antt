@@ -7,7 +7,7 @@ use mathlib.Core.List.{List}
 use lib.Dec.{T}
 use lib.ListN.{length}
 use Rattle.terms.specs.Term.{Term, Occ}
-use Rattle.marks.specs.Modes.{modes, Kept}
+use Rattle.marks.specs.Modes.{modes, KeptTo}
 use Rattle.marks.specs.Pass.{Pass}
 use Rattle.program.specs.Program.{Nth, Program, Clause}
 use Rattle.program.specs.Shapes.{shapes}
@@ -29,7 +29,7 @@ pub record HeadMark (p : Program) (table : List ℕ) (since rows k i q : ℕ) : 
   pub nth-clause : Nth (p .clauses) k c
   pub N : ℕ
   pub reached : ReachedSince p table since rows k i N
-  pub kept : Kept (λ v. Occ v (c .head)) N q
+  pub kept : KeptTo (λ v. Occ v (c .head)) N q
 
 -- the set has gained exactly these marks
 pub record Collected (P : ℕ → Type 0) (found found′ : List ℕ) : Type 0 where

@@ -5,7 +5,7 @@ use mathlib.Core.Logic.{_⊎_}
 use mathlib.Core.List.{List, List·Memᴰ}
 use lib.ListN.{length}
 use Rattle.terms.specs.Term.{Term}
-use Rattle.marks.specs.Modes.{modes, Kept, Renumbered}
+use Rattle.marks.specs.Modes.{modes, KeptTo, Renumbered}
 use Rattle.program.specs.Program.{Nth, Clause, Program}
 use Rattle.program.specs.Shapes.{shapeNumber, number, Listed}
 use Rattle.program.specs.Limits.{rowSize, maxRows}
@@ -55,5 +55,5 @@ Stepped p ks round room n table buckets Must n′ table′ buckets′ =
 pub data Emitted (p : Program) (k i N : ℕ) : Row ℕ → Type 0 where
   emitted-call : {c : Clause} {A : Term} {R : ℕ} → Nth (p .clauses) k c → Nth (c .body) i A → Renumbered A (number A) N R
       → Emitted p k i N (call (shapeNumber p A) R)
-  emitted-cont : {c : Clause} {A : Term} {R : ℕ} → Nth (p .clauses) k c → Nth (c .body) i A → Kept (Listed c i) N R
+  emitted-cont : {c : Clause} {A : Term} {R : ℕ} → Nth (p .clauses) k c → Nth (c .body) i A → KeptTo (Listed c i) N R
       → Emitted p k i N (cont (suc k) (suc i) R)

@@ -11,7 +11,7 @@ use Rattle.terms.specs.Cells.{variables}
 use Rattle.terms.specs.Mask.{Has}
 use Rattle.terms.proofs.Masks.{has-below, marks-below}
 use Rattle.terms.proofs.Substs.{sub-occ}
-use Rattle.terms.proofs.Binding.{atom-variables}
+use Rattle.terms.proofs.RunVariables.{atom-variables}
 use Rattle.marks.specs.Modes.{modes}
 use Rattle.marks.proofs.Passing.{pass-within}
 use Rattle.program.specs.Program.{Nth, Clause, Program}

@@ -9,7 +9,7 @@ use lib.ListN.{length, take, length-append, length-map}
 use Rattle.terms.specs.Term.{Term, Terms, sameTerm, var, app, nil, cons, Occ}
 use Rattle.terms.specs.Cells.{variables, Atom}
 use Rattle.terms.proofs.Substs.{occ-sub}
-use Rattle.terms.proofs.Binding.{atom-variables}
+use Rattle.terms.proofs.RunVariables.{atom-variables}
 use Rattle.program.specs.Limits.{maxBody}
 use Rattle.program.specs.Program.{Nth, Clause, Program, bodies}
 use Rattle.program.specs.Shapes.{with, met, mets, number, shapeOf, distinct, shapes, In}

@@ -7,7 +7,7 @@ use Rattle.terms.specs.Term.{Term}
 use Rattle.terms.specs.Unifier.{Apart}
 use Rattle.terms.proofs.Masks.{has-or}
 use Rattle.marks.specs.Pass.{Pass}
-use Rattle.marks.specs.Modes.{Kept, Renumbered, modes}
+use Rattle.marks.specs.Modes.{KeptTo, Renumbered, modes}
 use Rattle.marks.proofs.Passing.{pass-unique}
 use Rattle.marks.proofs.Modes.{together-unique, kept-unique, renumbered-unique}
 use Rattle.program.specs.Program.{Nth, Clause, Program}
@@ -61,7 +61,7 @@ module _ (p : Program) {k i : ℕ} {c : Clause} {A : Term} (hc : Nth (p .clauses
   makes-apart hs apart (makes hc′ hA′ hs′ passed joined) = pass-not-apart (rw (same-atom hc′ hA′, nth-same hs′ hs) at passed) apart
 
   -- a call row and a cont row
-  pub goes-two : (N R R′ : ℕ) → Renumbered A (number A) N R → Kept (Listed c i) N R′
+  pub goes-two : (N R R′ : ℕ) → Renumbered A (number A) N R → KeptTo (Listed c i) N R′
       → (key : ℕ) → Keyed p (GoesOn modes p k i N) key ↔ ((key ≡ rowKey p (call (shapeNumber p A) R)) ⊎ (key ≡ rowKey p (cont (suc k) (suc i) R′)))
   goes-two N R R′ numbered kept key = (λ (row, h, e). to h e, from)
     where

@@ -13,13 +13,14 @@ use Rattle.terms.specs.Cells.{enc, encs, Atom, atomCells, pick, takeTerm
 use Rattle.terms.specs.Unifier.{Apart}
 use Rattle.terms.specs.Store.{noPlace, second, cellsAt, termsAt, bound, unbound}
 use Rattle.terms.specs.Unified.{Unified}
-use Rattle.terms.specs.Unifying.{most, Kept, Solves, Comparable, Compared}
+use Rattle.terms.specs.Unifying.{most, RightStore, Solves, Comparable, Compared}
 use Rattle.terms.proofs.Substs.{sub-agree, sub-var, occs-all}
 use Rattle.terms.proofs.Masks.{has-one}
-use Rattle.terms.proofs.Pairs.{solution-most-general, unsolved-apart, itself-distinct, shifted-distinct, itself-shifted-disjoint}
+use Rattle.terms.proofs.Pairs.{solution-most-general, unsolved-apart, itself-one-to-one, shifted-one-to-one, itself-shifted-disjoint}
 use Rattle.terms.proofs.Standing.{stands-unbound, unbound-itself}
 use Rattle.terms.proofs.Standings.{terms-at-run, same-numbers-all}
-use Rattle.terms.proofs.Binding.{place-unbound, keepss-below}
+use Rattle.terms.proofs.Binding.{place-unbound}
+use Rattle.terms.proofs.RunVariables.{keepss-below}
 
 -- no variable has a place, and each is alone in its set
 abbrev pub noPlaces : List ℕ
@@ -62,8 +63,8 @@ unfolding most
 most-zero = refl
 
 -- at first every variable stands for itself
-pub kept-at-first : (F a b : List ℕ) → length a ≤ atomCells → length b ≤ atomCells → Kept F a b noPlaces alone var
-kept-at-first F a b s t =
+pub store-at-first : (F a b : List ℕ) → length a ≤ atomCells → length b ≤ atomCells → RightStore F a b noPlaces alone var
+store-at-first F a b s t =
     record {
       first-short = s;
       second-short = t;
@@ -103,8 +104,8 @@ module _ (P F a b : List ℕ) (A B : Term) (ea : a ≡ enc A) (eb : b ≡ enc B)
   short-second : length b ≤ atomCells
   short-second = rw eb (kB .short)
 
-  kept : Kept F a b noPlaces alone var
-  kept = kept-at-first F a b short-first short-second
+  store : RightStore F a b noPlaces alone var
+  store = store-at-first F a b short-first short-second
 
   -- atoms of different predicates are apart
   pub predicates-apart : (getD a 0 0 ≡ getD b 0 0 → ⊥) → Apart A B
@@ -140,7 +141,7 @@ module _ (P F a b : List ℕ) (A B : Term) (ea : a ≡ enc A) (eb : b ≡ enc B)
 
     pub arguments-comparable : Comparable F a b noPlaces alone 1 65 (getD P (getD a 0 0) 0)
     arguments-comparable =
-        record { σ = var; kept = kept; first-run = first-run; second-run = second-run; first-place = omega arith; second-place = omega arith }
+        record { σ = var; store = store; first-run = first-run; second-run = second-run; first-place = omega arith; second-place = omega arith }
 
     -- the solutions are those that make the atoms equal
     first-terms : takeTerms (getD P (getD a 0 0) 0) (termsAt F a b 1) ≡ subs (kA .arguments) (λ v. var (0 + v))
@@ -177,28 +178,28 @@ module _ (P F a b : List ℕ) (A B : Term) (ea : a ≡ enc A) (eb : b ≡ enc B)
     pub atoms-answer : (r : Bool) (places sets : List ℕ) → Compared F a b noPlaces alone 1 65 (getD P (getD a 0 0) 0) r places sets
         → pick r (Unified F a b A B places sets) (Apart A B)
     atoms-answer false places sets o =
-        unsolved-apart A B (λ v. v) (λ v. 16 + v) (itself-distinct A) (shifted-distinct 16 B) (itself-shifted-disjoint 16 A B below)
-        (λ τ e. o var kept τ (λ x. refl) (atoms-equal τ .1 e))
+        unsolved-apart A B (λ v. v) (λ v. 16 + v) (itself-one-to-one A) (shifted-one-to-one 16 B) (itself-shifted-disjoint 16 A B below)
+        (λ τ e. o var store τ (λ x. refl) (atoms-equal τ .1 e))
     atoms-answer true places sets o =
-        let j = o var kept in
+        let j = o var store in
         let σ = j .after in
         let self : Solves σ σ = λ x.
-        sub-agree (σ x) σ var (λ z q. unbound-itself (bound F a b places) z (σ z) (j .kept .full .stands z) (stands-unbound (j .kept .full .stands x) z q))
+        sub-agree (σ x) σ var (λ z q. unbound-itself (bound F a b places) z (σ z) (j .store .full .stands z) (stands-unbound (j .store .full .stands x) z q))
         ∙ sub-var (σ x) in
         record {
           σ = σ;
-          stands = j .kept .full .stands;
+          stands = j .store .full .stands;
           most-general =
-              solution-most-general A B (λ v. v) (λ v. 16 + v) (itself-distinct A) (shifted-distinct 16 B) (itself-shifted-disjoint 16 A B below) σ
+              solution-most-general A B (λ v. v) (λ v. 16 + v) (itself-one-to-one A) (shifted-one-to-one 16 B) (itself-shifted-disjoint 16 A B below) σ
               (record {
                 solves = atoms-equal σ .0 (j .solves σ .0 self .1);
                 absorbs = λ τ e. fun-ext (j .solves τ .1 (λ x. refl, atoms-equal τ .1 e));
               });
           sets-right =
               record {
-                first = λ v h z. j .kept .sets-right v z (omega arith);
-                second = λ v h z. j .kept .sets-right (16 + v) z (omega arith);
+                first = λ v h z. j .store .sets-right v z (omega arith);
+                second = λ v h z. j .store .sets-right (16 + v) z (omega arith);
               };
-          all-places = j .kept .all-places;
-          whole = j .kept .whole;
+          all-places = j .store .all-places;
+          whole = j .store .whole;
         }

@@ -13,7 +13,7 @@ use Rattle.terms.specs.Term.{Term, Terms, var, app, nil, cons, Subst, su
 use Rattle.terms.specs.Cells.{enc, encs, atomCells, Run}
 use Rattle.terms.specs.Mask.{Has}
 use Rattle.terms.specs.Store.{noPlace, cellsAt, termsAt, firstTerm, bound, Stands}
-use Rattle.terms.specs.Unifying.{baseOf, Full, steps, free, most, Kept, Joined, Parted, Followed, AllReplaced}
+use Rattle.terms.specs.Unifying.{baseOf, Full, steps, free, most, RightStore, Joined, Parted, Followed, AllReplaced}
 use Rattle.terms.proofs.Solutions.{occurs-check}
 use Rattle.terms.proofs.Standing.{stands-sub, unbound-itself, full-more}
 use Rattle.terms.proofs.Stores.{solves-sub, extended, extended-solves}
@@ -21,7 +21,8 @@ use Rattle.terms.proofs.Walks.{Union}
 use Rattle.terms.proofs.Steps.{run-within}
 use Rattle.terms.proofs.Places.{cells-first, cells-second}
 use Rattle.terms.proofs.Standings.{base-small, Next, next-term}
-use Rattle.terms.proofs.Binding.{gained-right, keeps-below, occ-bind, fewer-free, free-most, bound-now, bound-elsewhere, unbound-place}
+use Rattle.terms.proofs.Binding.{gained-right, occ-bind, fewer-free, free-most, bound-now, bound-elsewhere, unbound-place}
+use Rattle.terms.proofs.RunVariables.{keeps-below}
 
 -- a renumbered term has as many cells
 mutual
@@ -49,7 +50,7 @@ most-more k n h = mul-le-mul-left (most k) (omega arith)
 full-within : (b : ℕ → Option Term) (σ : Subst) (c d : ℕ) → c ≤ d → Full b σ c → Full b σ d
 full-within b σ c d l F = record { stands = F .stands; few = λ x. le-trans (F .few x) l }
 
-module _ (F a b places sets : List ℕ) (σ : Subst) (x p gained : ℕ) (K : Kept F a b places sets σ)
+module _ (F a b places sets : List ℕ) (σ : Subst) (x p gained : ℕ) (K : RightStore F a b places sets σ)
     (small : x < 32) (none-yet : bound F a b places x ≡ none) (r : Run F (cellsAt a b p) 1) (is-place : p < noPlace) where
   abbrev pub term : Term
   term = firstTerm (termsAt F a b p)
@@ -85,10 +86,10 @@ module _ (F a b places sets : List ℕ) (σ : Subst) (x p gained : ℕ) (K : Kep
   one-fewer = fewer-free places x p (omega (arith, K .all-places)) (unbound-place F a b places x none-yet) is-place
 
   -- the store with x bound
-  pub kept-bound : (sets′ : List ℕ) → Gained → (Has gained x → ⊥) → AllReplaced x gained sets sets′
-      → Kept F a b (set places x p) sets′ (extended σ x term itself)
+  pub store-bound : (sets′ : List ℕ) → Gained → (Has gained x → ⊥) → AllReplaced x gained sets sets′
+      → RightStore F a b (set places x p) sets′ (extended σ x term itself)
   unfolding one-fewer stood
-  kept-bound sets′ is fresh replaced =
+  store-bound sets′ is fresh replaced =
       record {
         first-short = K .first-short;
         second-short = K .second-short;
@@ -128,7 +129,7 @@ module _ (F a b places sets : List ℕ) (σ : Subst) (x p gained : ℕ) (K : Kep
   joined-bound sets′ is fresh replaced =
       record {
         after = extended σ x term itself;
-        kept = kept-bound sets′ is fresh replaced;
+        store = store-bound sets′ is fresh replaced;
         solves = λ τ.
             let e = extended-solves σ x term itself τ in (
               (λ h. let q = e .0 h in (q .0, ap (λ (u : Term). cons u nil) (q .1))),

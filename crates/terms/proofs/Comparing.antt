@@ -1,8 +1,8 @@
 -- Comparing the terms at two places: what is found there, and what each way of going on needs and gives.
-use Prim.Native.Nat.{ℕ, zero, suc, _+_, _-_, _≤_, _<_}
+use Prim.Native.Nat.{ℕ, _+_, _-_, _≤_, _<_}
 use mathlib.Core.Path.{_≡_, refl, sym, subst, _∙_}
 use mathlib.Core.Option.{none, some}
-use mathlib.Core.List.{List, [], _∷_}
+use mathlib.Core.List.{List}
 use native.Mathlib.Nat.{le-trans}
 use native.Mathlib.Decide.{decLt}
 use native.Mathlib.Omega.{arith}
@@ -13,13 +13,14 @@ use Rattle.terms.specs.Term.{var, app, Subst}
 use Rattle.terms.specs.Cells.{firstVariable, atomCells, pick, takeTerms, Run}
 use Rattle.terms.specs.Walk.{cellsOf}
 use Rattle.terms.specs.Store.{secondAtom, noPlace, cellsAt, termsAt, variableAt, firstTerm, bound}
-use Rattle.terms.specs.Unifying.{lookAt, Kept}
+use Rattle.terms.specs.Unifying.{lookAt, RightStore}
 use Rattle.terms.specs.declared.unifier.Look.{Look}
 use Rattle.terms.specs.declared.unifier.Look.the-variants.{Unbound, Bound, Function}
 use Rattle.terms.proofs.Places.{cells-first, cells-second, place-within}
 use Rattle.terms.proofs.Steps.{run-cell, run-within}
 use Rattle.terms.proofs.Standings.{Seen, a-variable, a-function, seen}
 use Rattle.terms.proofs.Binding.{place-unbound}
+use Rattle.terms.proofs.Parts.{same-inside}
 
 -- what an answer of `look_at` means for the term at the place
 abbrev pub Means : List ℕ → List ℕ → List ℕ → List ℕ → ℕ → Look → Type 0
@@ -30,12 +31,6 @@ Means F a b places p (Bound q) =
 Means F a b places p (Function f) =
     (firstTerm (termsAt F a b p) ≡ app f (takeTerms (getD F f 0) (termsAt F a b (p + 1)))) × (f < length F)
     × Run F (cellsAt a b (p + 1)) (getD F f 0) × (p + 1 < noPlace)
-
--- inside a list it does not matter what is said of its end
-pub same-inside : (l : List ℕ) (i d e : ℕ) → i < length l → getD l i d ≡ getD l i e
-same-inside [] i d e h = absurd (omega arith)
-same-inside (x ∷ l) zero d e h = refl
-same-inside (x ∷ l) (suc i) d e h = same-inside l i d e (omega arith)
 
 -- a place moved on by a term's cells is a place
 pub place-past : (F a b : List ℕ) (p : ℕ) → length a ≤ atomCells → length b ≤ atomCells → Run F (cellsAt a b p) 1
@@ -72,7 +67,7 @@ place-on F a b p s t r = go (decLt p secondAtom)
         let w = place-within b (p - secondAtom) (rw (cells-second a b p (omega arith)) at some) in
         omega arith
 
-pub looked : (F a b places sets : List ℕ) (σ : Subst) (p : ℕ) → Kept F a b places sets σ → Run F (cellsAt a b p) 1
+pub looked : (F a b places sets : List ℕ) (σ : Subst) (p : ℕ) → RightStore F a b places sets σ → Run F (cellsAt a b p) 1
     → Means F a b places p (lookAt a b places p)
 looked F a b places sets σ p K r = go (seen F a b p (K .first-short) r)
   where
@@ -102,6 +97,6 @@ looked F a b places sets σ p K r = go (seen F a b p (K .first-short) r)
             (e, place-unbound F a b places (variableAt p (getD (cellsAt a b p) 0 0)) (rw same (omega arith)), s)
 
 -- the same, of an answer that is known
-pub looked-as : (F a b places sets : List ℕ) (σ : Subst) (p : ℕ) → Kept F a b places sets σ → Run F (cellsAt a b p) 1
+pub looked-as : (F a b places sets : List ℕ) (σ : Subst) (p : ℕ) → RightStore F a b places sets σ → Run F (cellsAt a b p) 1
     → (r l : Look) → r ≡ lookAt a b places p → r ≡ l → Means F a b places p l
 looked-as F a b places sets σ p K r answer l e f = subst (Means F a b places p) (sym e ∙ f) (looked F a b places sets σ p K r)

@@ -10,7 +10,7 @@ use Rattle.terms.specs.Term.{Term, Terms, var, app, nil, cons, Subst, su
 use Rattle.terms.specs.Cells.{enc, encs, atomCells, takeTerms, Run}
 use Rattle.terms.specs.Walk.{cellsOf}
 use Rattle.terms.specs.Store.{cellsAt, termsAt, firstTerm, bound}
-use Rattle.terms.specs.Unifying.{baseOf, Kept, Outcome, Followed, Bindable, Comparable, Compared, free}
+use Rattle.terms.specs.Unifying.{baseOf, RightStore, Outcome, Followed, Bindable, Comparable, Compared, free}
 use Rattle.terms.specs.declared.unifier.Look.the-variants.{Unbound, Bound, Function}
 use Rattle.terms.proofs.Runs.{run-terms}
 use Rattle.terms.proofs.Steps.{run-within}
@@ -28,7 +28,7 @@ pub one-same : {u w : Term} {us ws : Terms} → cons u us ≡ cons w ws → u �
 one-same e = cc
 
 -- the terms at a place have no more cells than an atom
-pub short-terms : (F a b places sets : List ℕ) (σ : Subst) (p n : ℕ) → Kept F a b places sets σ → Run F (cellsAt a b p) n
+pub short-terms : (F a b places sets : List ℕ) (σ : Subst) (p n : ℕ) → RightStore F a b places sets σ → Run F (cellsAt a b p) n
     → length (encs (takeTerms n (termsAt F a b p))) ≤ atomCells
 short-terms F a b places sets σ p n K r =
     let e : length (encs (takeTerms n (termsAt F a b p))) ≡ cellsOf F (cellsAt a b p) n =
@@ -37,11 +37,11 @@ short-terms F a b places sets σ p n K r =
     ∙ ap (λ (us : Terms). length (encs us)) (sym (run-terms F (cellsAt a b p) n r)) in
     omega (arith, run-within F (cellsAt a b p) n r, short-at a b p (K .first-short) (K .second-short))
 
-pub first-alone : (F a b places sets : List ℕ) (σ : Subst) (p : ℕ) → Kept F a b places sets σ → Run F (cellsAt a b p) 1
+pub first-alone : (F a b places sets : List ℕ) (σ : Subst) (p : ℕ) → RightStore F a b places sets σ → Run F (cellsAt a b p) 1
     → takeTerms 1 (termsAt F a b p) ≡ cons (firstTerm (termsAt F a b p)) nil
 first-alone F a b places sets σ p K r = next-term F a b p 0 (K .first-short) r .first-alone
 
-pub short-first : (F a b places sets : List ℕ) (σ : Subst) (p : ℕ) → Kept F a b places sets σ → Run F (cellsAt a b p) 1
+pub short-first : (F a b places sets : List ℕ) (σ : Subst) (p : ℕ) → RightStore F a b places sets σ → Run F (cellsAt a b p) 1
     → length (enc (firstTerm (termsAt F a b p))) ≤ atomCells
 short-first F a b places sets σ p K r =
     let h = short-terms F a b places sets σ p 1 K r in
@@ -49,28 +49,28 @@ short-first F a b places sets σ p K r =
     rw append-nil at e
 
 module _ (F a b P S : List ℕ) (s t : ℕ) (R : Comparable F a b P S s t 1) where
-  K : Kept F a b P S (R .σ)
-  K = R .kept
+  K : RightStore F a b P S (R .σ)
+  K = R .store
 
   es : takeTerms 1 (termsAt F a b s) ≡ cons (firstTerm (termsAt F a b s)) nil
-  es = first-alone F a b P S (R .σ) s (R .kept) (R .first-run)
+  es = first-alone F a b P S (R .σ) s (R .store) (R .first-run)
 
   et : takeTerms 1 (termsAt F a b t) ≡ cons (firstTerm (termsAt F a b t)) nil
-  et = first-alone F a b P S (R .σ) t (R .kept) (R .second-run)
+  et = first-alone F a b P S (R .σ) t (R .store) (R .second-run)
 
   -- the first term is a bound variable: on with what it is bound to
   module _ (p : ℕ) (M : Means F a b P s (Bound p)) where
     ep : takeTerms 1 (termsAt F a b p) ≡ cons (firstTerm (termsAt F a b p)) nil
-    ep = first-alone F a b P S (R .σ) p (R .kept) (M .3)
+    ep = first-alone F a b P S (R .σ) p (R .store) (M .3)
 
     pub follow-first : Comparable F a b P S p t 1
     follow-first =
-        record { σ = R .σ; kept = R .kept; first-run = M .3; second-run = R .second-run; first-place = M .4; second-place = R .second-place }
+        record { σ = R .σ; store = R .store; first-run = M .3; second-run = R .second-run; first-place = M .4; second-place = R .second-place }
 
     pub follow-first-lighter : load F a b P p t 1 < load F a b P s t 1
     follow-first-lighter =
         rw (ep, es, M .1)
-        (lighter-bound F a b P S (R .σ) (R .kept) (M .0) (firstTerm (termsAt F a b p)) _ (M .2) (short-first F a b P S (R .σ) p (R .kept) (M .3)))
+        (lighter-bound F a b P S (R .σ) (R .store) (M .0) (firstTerm (termsAt F a b p)) _ (M .2) (short-first F a b P S (R .σ) p (R .store) (M .3)))
 
     pub follow-first-outcome : (r : Bool) (P′ S′ : List ℕ) → Compared F a b P S p t 1 r P′ S′ → Compared F a b P S s t 1 r P′ S′
     follow-first-outcome r P′ S′ =
@@ -83,16 +83,16 @@ module _ (F a b P S : List ℕ) (s t : ℕ) (R : Comparable F a b P S s t 1) whe
   -- the second term is a bound variable
   module _ (p : ℕ) (M : Means F a b P t (Bound p)) where
     eq : takeTerms 1 (termsAt F a b p) ≡ cons (firstTerm (termsAt F a b p)) nil
-    eq = first-alone F a b P S (R .σ) p (R .kept) (M .3)
+    eq = first-alone F a b P S (R .σ) p (R .store) (M .3)
 
     pub follow-second : Comparable F a b P S s p 1
     follow-second =
-        record { σ = R .σ; kept = R .kept; first-run = R .first-run; second-run = M .3; first-place = R .first-place; second-place = M .4 }
+        record { σ = R .σ; store = R .store; first-run = R .first-run; second-run = M .3; first-place = R .first-place; second-place = M .4 }
 
     pub follow-second-lighter : load F a b P s p 1 < load F a b P s t 1
     follow-second-lighter =
         rw (eq, et, M .1)
-        (lighter-bound-second F a b P S (R .σ) (R .kept) (M .0) (firstTerm (termsAt F a b p)) _ (M .2) (short-first F a b P S (R .σ) p (R .kept) (M .3)))
+        (lighter-bound-second F a b P S (R .σ) (R .store) (M .0) (firstTerm (termsAt F a b p)) _ (M .2) (short-first F a b P S (R .σ) p (R .store) (M .3)))
 
     pub follow-second-outcome : (r : Bool) (P′ S′ : List ℕ) → Compared F a b P S s p 1 r P′ S′ → Compared F a b P S s t 1 r P′ S′
     follow-second-outcome r P′ S′ =
@@ -106,7 +106,7 @@ module _ (F a b P S : List ℕ) (s t : ℕ) (R : Comparable F a b P S s t 1) whe
   module _ (x : ℕ) (M : Means F a b P s (Unbound x)) (way : Followed (bound F a b P) x (firstTerm (termsAt F a b t))) where
     pub bind-first : Bindable F a b P S x t
     bind-first =
-        record { σ = R .σ; kept = R .kept; small = M .2; unbound-yet = M .1; run = R .second-run; is-place = R .second-place; way = way }
+        record { σ = R .σ; store = R .store; small = M .2; unbound-yet = M .1; run = R .second-run; is-place = R .second-place; way = way }
 
     pub bind-first-outcome : (r : Bool) (P′ S′ : List ℕ)
         → Outcome F a b P S (cons (var x) nil) (cons (firstTerm (termsAt F a b t)) nil) r P′ S′ → Compared F a b P S s t 1 r P′ S′
@@ -116,7 +116,7 @@ module _ (F a b P S : List ℕ) (s t : ℕ) (R : Comparable F a b P S s t 1) whe
   module _ (x : ℕ) (M : Means F a b P t (Unbound x)) (way : Followed (bound F a b P) x (firstTerm (termsAt F a b s))) where
     pub bind-second : Bindable F a b P S x s
     bind-second =
-        record { σ = R .σ; kept = R .kept; small = M .2; unbound-yet = M .1; run = R .first-run; is-place = R .first-place; way = way }
+        record { σ = R .σ; store = R .store; small = M .2; unbound-yet = M .1; run = R .first-run; is-place = R .first-place; way = way }
 
     pub bind-second-outcome : (r : Bool) (P′ S′ : List ℕ)
         → Outcome F a b P S (cons (var x) nil) (cons (firstTerm (termsAt F a b s)) nil) r P′ S′ → Compared F a b P S s t 1 r P′ S′
@@ -139,16 +139,16 @@ module _ (F a b P S : List ℕ) (s t : ℕ) (R : Comparable F a b P S s t 1) whe
   module _ (f : ℕ) (M : Means F a b P s (Function f)) (N : Means F a b P t (Function f)) where
     pub arguments : Comparable F a b P S (s + 1) (t + 1) (getD F f 0)
     arguments =
-        record { σ = R .σ; kept = R .kept; first-run = M .2; second-run = N .2; first-place = M .3; second-place = N .3 }
+        record { σ = R .σ; store = R .store; first-run = M .2; second-run = N .2; first-place = M .3; second-place = N .3 }
 
     short-arguments : (p : ℕ) → Means F a b P p (Function f) → Run F (cellsAt a b p) 1
         → length (encs (takeTerms (getD F f 0) (termsAt F a b (p + 1)))) < atomCells
-    short-arguments p O r = rw (O .0) at (short-first F a b P S (R .σ) p (R .kept) r)
+    short-arguments p O r = rw (O .0) at (short-first F a b P S (R .σ) p (R .store) r)
 
     pub arguments-lighter : suc (load F a b P (s + 1) (t + 1) (getD F f 0)) < load F a b P s t 1
     arguments-lighter =
         rw (es, et, M .0, N .0)
-        (lighter-arguments F a b P S (R .σ) (R .kept) f f _ _ (short-arguments s M (R .first-run)) (short-arguments t N (R .second-run)))
+        (lighter-arguments F a b P S (R .σ) (R .store) f f _ _ (short-arguments s M (R .first-run)) (short-arguments t N (R .second-run)))
 
     pub arguments-outcome : (r : Bool) (P′ S′ : List ℕ) → Compared F a b P S (s + 1) (t + 1) (getD F f 0) r P′ S′ → Compared F a b P S s t 1 r P′ S′
     arguments-outcome r P′ S′ =
@@ -162,29 +162,29 @@ module _ (F a b P S : List ℕ) (s t n : ℕ) (R : Comparable F a b P S s t n) w
 
   module _ (m : ℕ) (e : n ≡ suc m) where
     first : Next F a b s m
-    first = next-term F a b s m (R .kept .first-short) (rw e at (R .first-run))
+    first = next-term F a b s m (R .store .first-short) (rw e at (R .first-run))
 
     second : Next F a b t m
-    second = next-term F a b t m (R .kept .first-short) (rw e at (R .second-run))
+    second = next-term F a b t m (R .store .first-short) (rw e at (R .second-run))
 
     pub first-pair : Comparable F a b P S s t 1
     first-pair =
-        record { σ = R .σ; kept = R .kept; first-run = first .alone; second-run = second .alone; first-place = R .first-place; second-place = R .second-place }
+        record { σ = R .σ; store = R .store; first-run = first .alone; second-run = second .alone; first-place = R .first-place; second-place = R .second-place }
 
     short-first-all : length (encs (cons (firstTerm (termsAt F a b s)) (takeTerms m (termsAt F a b (s + cellsOf F (cellsAt a b s) 1))))) ≤ atomCells
     short-first-all =
         subst (λ (us : Terms). length (encs us) ≤ atomCells) (first .together)
-        (subst (λ (k : ℕ). length (encs (takeTerms k (termsAt F a b s))) ≤ atomCells) e (short-terms F a b P S (R .σ) s n (R .kept) (R .first-run)))
+        (subst (λ (k : ℕ). length (encs (takeTerms k (termsAt F a b s))) ≤ atomCells) e (short-terms F a b P S (R .σ) s n (R .store) (R .first-run)))
 
     short-second-all : length (encs (cons (firstTerm (termsAt F a b t)) (takeTerms m (termsAt F a b (t + cellsOf F (cellsAt a b t) 1))))) ≤ atomCells
     short-second-all =
         subst (λ (us : Terms). length (encs us) ≤ atomCells) (second .together)
-        (subst (λ (k : ℕ). length (encs (takeTerms k (termsAt F a b t))) ≤ atomCells) e (short-terms F a b P S (R .σ) t n (R .kept) (R .second-run)))
+        (subst (λ (k : ℕ). length (encs (takeTerms k (termsAt F a b t))) ≤ atomCells) e (short-terms F a b P S (R .σ) t n (R .store) (R .second-run)))
 
     pub first-pair-lighter : load F a b P s t 1 ≤ load F a b P s t n
     first-pair-lighter =
         rw (e, first .together, second .together, first .first-alone, second .first-alone)
-        (lighter-first F a b P S (R .σ) (R .kept)
+        (lighter-first F a b P S (R .σ) (R .store)
         (firstTerm (termsAt F a b s)) (firstTerm (termsAt F a b t))
         (takeTerms m (termsAt F a b (s + cellsOf F (cellsAt a b s) 1))) (takeTerms m (termsAt F a b (t + cellsOf F (cellsAt a b t) 1)))
         short-first-all short-second-all)
@@ -202,28 +202,28 @@ module _ (F a b P S : List ℕ) (s t n : ℕ) (R : Comparable F a b P S s t n) w
       pub others : Comparable F a b P′ S′ (s + cellsOf F (cellsAt a b s) 1) (t + cellsOf F (cellsAt a b t) 1) m
       others =
           record {
-            σ = o (R .σ) (R .kept) .after;
-            kept = o (R .σ) (R .kept) .kept;
+            σ = o (R .σ) (R .store) .after;
+            store = o (R .σ) (R .store) .store;
             first-run = first .others;
             second-run = second .others;
-            first-place = place-past F a b s (R .kept .first-short) (R .kept .second-short) (first .alone);
-            second-place = place-past F a b t (R .kept .first-short) (R .kept .second-short) (second .alone);
+            first-place = place-past F a b s (R .store .first-short) (R .store .second-short) (first .alone);
+            second-place = place-past F a b t (R .store .first-short) (R .store .second-short) (second .alone);
           }
 
       pub others-lighter : load F a b P′ (s + cellsOf F (cellsAt a b s) 1) (t + cellsOf F (cellsAt a b t) 1) m < load F a b P s t n
-      others-lighter = go (o (R .σ) (R .kept) .fewer)
+      others-lighter = go (o (R .σ) (R .store) .fewer)
         where
           go : (free P′ < free P) ⊎ ((P′ ≡ P) × (S′ ≡ S))
               → load F a b P′ (s + cellsOf F (cellsAt a b s) 1) (t + cellsOf F (cellsAt a b t) 1) m < load F a b P s t n
           go (inl h) =
-              lighter-fewer F a b P S P′ S′ (R .σ) (others .σ) (R .kept) (others .kept) h
+              lighter-fewer F a b P S P′ S′ (R .σ) (others .σ) (R .store) (others .store) h
               (takeTerms n (termsAt F a b s)) (takeTerms n (termsAt F a b t))
               (takeTerms m (termsAt F a b (s + cellsOf F (cellsAt a b s) 1))) (takeTerms m (termsAt F a b (t + cellsOf F (cellsAt a b t) 1)))
-              (short-terms F a b P′ S′ (others .σ) (s + cellsOf F (cellsAt a b s) 1) m (others .kept) (first .others))
-              (short-terms F a b P′ S′ (others .σ) (t + cellsOf F (cellsAt a b t) 1) m (others .kept) (second .others))
+              (short-terms F a b P′ S′ (others .σ) (s + cellsOf F (cellsAt a b s) 1) m (others .store) (first .others))
+              (short-terms F a b P′ S′ (others .σ) (t + cellsOf F (cellsAt a b t) 1) m (others .store) (second .others))
           go (inr h) =
               rw (h .0, e, first .together, second .together)
-              (lighter-others F a b P S (R .σ) (R .kept)
+              (lighter-others F a b P S (R .σ) (R .store)
               (firstTerm (termsAt F a b s)) (firstTerm (termsAt F a b t))
               (takeTerms m (termsAt F a b (s + cellsOf F (cellsAt a b s) 1))) (takeTerms m (termsAt F a b (t + cellsOf F (cellsAt a b t) 1)))
               short-first-all short-second-all)

@@ -8,23 +8,23 @@ use mathlib.Core.List.{List}
 use native.Mathlib.Omega.{arith}
 use Rattle.terms.specs.Term.{Term, Terms, app, nil, cons, Subst, sub, subs}
 use Rattle.terms.specs.Store.{Stands, StandAll, unbound, followed, node, done, more}
-use Rattle.terms.specs.Unifying.{Full, free, Kept, Solves, Outcome}
-use Rattle.terms.proofs.Standing.{Bindings, stands-sub, unbound-itself, bound-follows}
+use Rattle.terms.specs.Unifying.{Full, free, RightStore, Solves, Outcome}
+use Rattle.terms.proofs.Standing.{BoundTerms, stands-sub, unbound-itself, bound-follows}
 use Rattle.terms.proofs.Stores.{solves-sub}
 
 -- what a term stands for in full is one term
 mutual
-  pub stands-once : {b : Bindings} {t u w : Term} → Stands b t u → Stands b t w → u ≡ w
+  pub stands-once : {b : BoundTerms} {t u w : Term} → Stands b t u → Stands b t w → u ≡ w
   stands-once {b} {t} {u} {w} (unbound {x = x} e) d = sym (unbound-itself b x w d e)
   stands-once {b} {t} {u} {w} (followed {x = x} {t = s} e c) d = stands-once c (bound-follows b x s w d e .0)
   stands-once (node {f = f} cs) (node ds) = ap (app f) (stand-once cs ds)
 
-  pub stand-once : {b : Bindings} {ts us ws : Terms} → StandAll b ts us → StandAll b ts ws → us ≡ ws
+  pub stand-once : {b : BoundTerms} {ts us ws : Terms} → StandAll b ts us → StandAll b ts ws → us ≡ ws
   stand-once done done = refl
   stand-once (more c cs) (more d ds) = ap₂ cons (stands-once c d) (stand-once cs ds)
 
 -- a bound variable is, under every solution, the term that it is bound to
-pub bound-same : (b : Bindings) (σ : Subst) (c : ℕ) → Full b σ c → (x : ℕ) (t : Term) → b x ≡ some t → (τ : Subst) → Solves σ τ → τ x ≡ sub t τ
+pub bound-same : (b : BoundTerms) (σ : Subst) (c : ℕ) → Full b σ c → (x : ℕ) (t : Term) → b x ≡ some t → (τ : Subst) → Solves σ τ → τ x ≡ sub t τ
 bound-same b σ c F x t e τ s =
     let d = bound-follows b x t (σ x) (F .stands x) e .0 in
     let q : σ x ≡ sub t σ = stands-once d (stands-sub b σ c F t .0) in
@@ -32,13 +32,13 @@ bound-same b σ c F x t e τ s =
 
 -- an outcome for terms is one for terms that every solution makes the same
 pub outcome-for : (F a b places sets : List ℕ) (ss ts ss′ ts′ : Terms) (r : Bool) (places′ sets′ : List ℕ)
-    → ((σ : Subst) → Kept F a b places sets σ → (τ : Subst) → Solves σ τ → (subs ss τ ≡ subs ts τ) ↔ (subs ss′ τ ≡ subs ts′ τ))
+    → ((σ : Subst) → RightStore F a b places sets σ → (τ : Subst) → Solves σ τ → (subs ss τ ≡ subs ts τ) ↔ (subs ss′ τ ≡ subs ts′ τ))
     → Outcome F a b places sets ss ts r places′ sets′ → Outcome F a b places sets ss′ ts′ r places′ sets′
 outcome-for F a b places sets ss ts ss′ ts′ true places′ sets′ same o σ K =
     let j = o σ K in
     record {
       after = j .after;
-      kept = j .kept;
+      store = j .store;
       solves = λ τ. (
         (λ h. let q = j .solves τ .0 h in (q .0, same σ K τ (q .0) .0 (q .1))),
         (λ h. j .solves τ .1 (h .0, same σ K τ (h .0) .1 (h .1))),
@@ -49,12 +49,12 @@ outcome-for F a b places sets ss ts ss′ ts′ false places′ sets′ same o �
 
 -- terms that are the same under every solution: nothing to do
 pub outcome-same : (F a b places sets : List ℕ) (ss ts : Terms)
-    → ((σ : Subst) → Kept F a b places sets σ → (τ : Subst) → Solves σ τ → subs ss τ ≡ subs ts τ)
+    → ((σ : Subst) → RightStore F a b places sets σ → (τ : Subst) → Solves σ τ → subs ss τ ≡ subs ts τ)
     → Outcome F a b places sets ss ts true places sets
 outcome-same F a b places sets ss ts same σ K =
     record {
       after = σ;
-      kept = K;
+      store = K;
       solves = λ τ. (λ s. (s, same σ K τ s), λ h. h .0);
       fewer = inr (refl, refl);
     }
@@ -66,10 +66,10 @@ pub outcome-then : (F a b places sets : List ℕ) (s t : Term) (ss ts : Terms) (
     → Outcome F a b places sets (cons s ss) (cons t ts) r places″ sets″
 outcome-then F a b places sets s t ss ts places′ sets′ true places″ sets″ o o′ σ K =
     let j = o σ K in
-    let k = o′ (j .after) (j .kept) in
+    let k = o′ (j .after) (j .store) in
     record {
       after = k .after;
-      kept = k .kept;
+      store = k .store;
       solves = λ τ. (
         (λ h.
             let q = k .solves τ .0 h in
@@ -97,7 +97,7 @@ outcome-then F a b places sets s t ss ts places′ sets′ true places″ sets�
     go (inr p) (inr q) = inr (q .0 ∙ p .0, q .1 ∙ p .1)
 outcome-then F a b places sets s t ss ts places′ sets′ false places″ sets″ o o′ σ K =
     let j = o σ K in
-    λ τ h e. o′ (j .after) (j .kept) τ (j .solves τ .1 (h, ap (λ (u : Term). cons u nil) (first-same e))) (others-same e)
+    λ τ h e. o′ (j .after) (j .store) τ (j .solves τ .1 (h, ap (λ (u : Term). cons u nil) (first-same e))) (others-same e)
   where
     first-same : {u w : Term} {us ws : Terms} → cons u us ≡ cons w ws → u ≡ w
     first-same e = cc

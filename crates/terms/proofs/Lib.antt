@@ -1,29 +1,32 @@
--- The laws that other crates cite, each module named by its subject.
+-- The laws that other crates cite are `pub`, each module named by its subject; how unification works stays inside.
 pub mod Substs
 pub mod Masks
+pub mod Without
 pub mod Variables
-pub mod Solutions
-pub mod Space
-pub mod Unify
-pub mod Pairs
-pub mod Renaming
-pub mod Samples
+pub mod Parts
 pub mod Runs
 pub mod Steps
-pub mod Walks
-pub mod Places
-pub mod Replacing
-pub mod Standings
-pub mod Binding
-pub mod Joining
-pub mod Bound
-pub mod Weight
-pub mod Comparing
-pub mod GoingOn
-pub mod Atoms
-pub mod Standing
-pub mod Stores
-pub mod Refilled
+pub mod RunVariables
+mod Solutions
+mod Space
+mod Unify
+pub mod Pairs
+mod Renaming
+mod Samples
+mod Walks
+mod Places
+mod Replacing
+mod Standings
+mod Binding
+mod Joining
+mod Bound
+mod Weight
+mod Comparing
+mod GoingOn
+mod Atoms
+mod Standing
+mod Stores
+mod Refilled
 pub mod BytesPut
 mod CodedPlaces
 pub mod NotedBindings

@@ -17,7 +17,7 @@ use Rattle.terms.specs.Bytes.{notedSet, SetPut}
 use Rattle.terms.specs.Noted.{IsBound, countOf, Coded, PlacesPut, notedSize, NotedAt, notedEnd, BindingsPut, BindingsTaken}
 use Rattle.terms.proofs.Masks.{has-decided, marks-unique}
 use Rattle.terms.proofs.Joining.{stands-once}
-use Rattle.terms.proofs.Comparing.{same-inside}
+use Rattle.terms.proofs.Parts.{same-inside}
 use Rattle.terms.proofs.BytesPut.{set-stays, put-then}
 use Rattle.terms.proofs.CodedPlaces.{coded-stays, put-coded}
 

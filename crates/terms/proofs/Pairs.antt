@@ -17,18 +17,18 @@ abbrev pub numbered : Term → (ℕ → ℕ) → Term
 numbered A f = sub A (λ v. var (f v))
 
 -- different variables of the atom get different numbers
-abbrev pub Distinct : Term → (ℕ → ℕ) → Type 0
-Distinct A f = (x x′ : ℕ) → Occ x A → Occ x′ A → f x ≡ f x′ → x ≡ x′
+abbrev pub OneToOne : Term → (ℕ → ℕ) → Type 0
+OneToOne A f = (x x′ : ℕ) → Occ x A → Occ x′ A → f x ≡ f x′ → x ≡ x′
 
 -- the term of the variable that has the number v, or another term
 abbrev pub at-number : (A : Term) (f : ℕ → ℕ) (v : ℕ) → Subst → Term → Dec (Some (λ x. f x ≡ v) A) → Term
 at-number A f v α other (yes s) = α (s .0)
 at-number A f v α other (no n) = other
 
-at-number-of : (A : Term) (f : ℕ → ℕ) (x : ℕ) (α : Subst) (other : Term) (d : Dec (Some (λ z. f z ≡ f x) A)) → Distinct A f → Occ x A
+at-number-of : (A : Term) (f : ℕ → ℕ) (x : ℕ) (α : Subst) (other : Term) (d : Dec (Some (λ z. f z ≡ f x) A)) → OneToOne A f → Occ x A
     → at-number A f (f x) α other d ≡ α x
-at-number-of A f x α other (yes s) distinct o = ap α (distinct (s .0) x (s .1) o (s .2))
-at-number-of A f x α other (no n) distinct o = absurd (n (x, o, refl))
+at-number-of A f x α other (yes s) one-to-one o = ap α (one-to-one (s .0) x (s .1) o (s .2))
+at-number-of A f x α other (no n) one-to-one o = absurd (n (x, o, refl))
 
 at-number-else : (A : Term) (f : ℕ → ℕ) (v : ℕ) (α : Subst) (other : Term) (d : Dec (Some (λ z. f z ≡ v) A))
     → (Some (λ z. f z ≡ v) A → ⊥) → at-number A f v α other d ≡ other
@@ -47,16 +47,16 @@ Disjoint A l B r = (x y : ℕ) → Occ x A → Occ y B → l x ≡ r y → ⊥
 paired : (A B : Term) (l r : ℕ → ℕ) → Subst → Subst → Subst
 paired A B l r α β v = at-number A l v α (at-number B r v β (var v) (has-number B r v)) (has-number A l v)
 
-module _ (A B : Term) (l r : ℕ → ℕ) (l-distinct : Distinct A l) (r-distinct : Distinct B r) (disjoint : Disjoint A l B r) where
+module _ (A B : Term) (l r : ℕ → ℕ) (l-one-to-one : OneToOne A l) (r-one-to-one : OneToOne B r) (disjoint : Disjoint A l B r) where
   paired-left : (α β : Subst) (x : ℕ) → Occ x A → paired A B l r α β (l x) ≡ α x
   unfolding paired
-  paired-left α β x o = at-number-of A l x α _ (has-number A l (l x)) l-distinct o
+  paired-left α β x o = at-number-of A l x α _ (has-number A l (l x)) l-one-to-one o
 
   paired-right : (α β : Subst) (y : ℕ) → Occ y B → paired A B l r α β (r y) ≡ β y
   unfolding paired
   paired-right α β y o =
       at-number-else A l (r y) α _ (has-number A l (r y)) (λ s. disjoint (s .0) y (s .1) o (s .2))
-      ∙ at-number-of B r y β (var (r y)) (has-number B r (r y)) r-distinct o
+      ∙ at-number-of B r y β (var (r y)) (has-number B r (r y)) r-one-to-one o
 
   -- a pair that makes the atoms equal makes the numbered atoms equal
   paired-solves : (α β : Subst) → Unifies A B α β → sub (numbered A l) (paired A B l r α β) ≡ sub (numbered B r) (paired A B l r α β)
@@ -89,21 +89,21 @@ even v = v + v
 abbrev pub odd : ℕ → ℕ
 odd v = suc (v + v)
 
-pub even-distinct : (A : Term) → Distinct A even
-even-distinct A x x′ o o′ e = omega arith
+pub even-one-to-one : (A : Term) → OneToOne A even
+even-one-to-one A x x′ o o′ e = omega arith
 
-pub odd-distinct : (A : Term) → Distinct A odd
-odd-distinct A x x′ o o′ e = omega arith
+pub odd-one-to-one : (A : Term) → OneToOne A odd
+odd-one-to-one A x x′ o o′ e = omega arith
 
 pub even-odd-disjoint : (A B : Term) → Disjoint A even B odd
 even-odd-disjoint A B x y o o′ e = omega arith
 
 -- or A's variables keep their numbers, below n, and B's stand n further
-pub itself-distinct : (A : Term) → Distinct A (λ v. v)
-itself-distinct A x x′ o o′ e = e
+pub itself-one-to-one : (A : Term) → OneToOne A (λ v. v)
+itself-one-to-one A x x′ o o′ e = e
 
-pub shifted-distinct : (n : ℕ) (B : Term) → Distinct B (λ v. n + v)
-shifted-distinct n B y y′ o o′ e = omega arith
+pub shifted-one-to-one : (n : ℕ) (B : Term) → OneToOne B (λ v. n + v)
+shifted-one-to-one n B y y′ o o′ e = omega arith
 
 pub itself-shifted-disjoint : (n : ℕ) (A B : Term) → All (λ v. v < n) A → Disjoint A (λ v. v) B (λ v. n + v)
 itself-shifted-disjoint n A B small x y o o′ e = let h = all-occ (λ v. v < n) A small x o in omega arith
@@ -114,8 +114,8 @@ Decided A B = Apart A B ⊎ ((α : Subst) × (β : Subst) × MostGeneral A B α 
 
 unfoldable pub decided : (A B : Term) → Unified (numbered A even) (numbered B odd) → Decided A B
 decided A B (inl s) =
-    inr (λ v. s .0 (even v), λ v. s .0 (odd v), solution-most-general A B even odd (even-distinct A) (odd-distinct B) (even-odd-disjoint A B) (s .0) (s .1))
-decided A B (inr n) = inl (unsolved-apart A B even odd (even-distinct A) (odd-distinct B) (even-odd-disjoint A B) n)
+    inr (λ v. s .0 (even v), λ v. s .0 (odd v), solution-most-general A B even odd (even-one-to-one A) (odd-one-to-one B) (even-odd-disjoint A B) (s .0) (s .1))
+decided A B (inr n) = inl (unsolved-apart A B even odd (even-one-to-one A) (odd-one-to-one B) (even-odd-disjoint A B) n)
 
 -- two atoms are apart, or have a most general unifier
 unfoldable pub unifier-decided : (A B : Term) → Decided A B
@@ -125,11 +125,3 @@ unifier-decided A B = decided A B (unify (numbered A even) (numbered B odd))
 -- and never both
 pub apart-not-unified : {A B : Term} {α β : Subst} → Apart A B → MostGeneral A B α β → ⊥
 apart-not-unified {α = α} {β = β} apart u = apart α β (u .unifies)
-
--- two atoms that some pair makes equal have a most general unifier
-pub unifier-of : (A B : Term) (α β : Subst) → Unifies A B α β → (γ : Subst) × (δ : Subst) × MostGeneral A B γ δ
-unifier-of A B α β e = at (unifier-decided A B)
-  where
-    at : Decided A B → (γ : Subst) × (δ : Subst) × MostGeneral A B γ δ
-    at (inl apart) = absurd (apart α β e)
-    at (inr u) = u

@@ -4,7 +4,7 @@ use mathlib.Core.Path.{_≡_, refl, sym, ap}
 use mathlib.Core.List.{List}
 use native.Mathlib.Omega.{arith}
 use lib.ListN.{length, getD, take, drop, length-drop}
-use lib.Seq.{take-all, getD-drop, length-take-le}
+use lib.Seq.{getD-drop, length-take-le}
 use borrow.Author.Tests.{lt-ltb, le-ltb}
 use Rattle.terms.specs.Cells.{firstVariable, Run}
 use Rattle.terms.specs.Walk.{cellsOf}
@@ -18,10 +18,6 @@ cells-first a b p h = rw (lt-ltb p secondAtom h)
 
 pub cells-second : (a b : List ℕ) (p : ℕ) → secondAtom ≤ p → cellsAt a b p ≡ drop (p - secondAtom) b
 cells-second a b p h = rw (le-ltb p secondAtom h)
-
--- the part of a slice from a place on, as `&s[p..]` has it
-pub part-from : (l : List ℕ) (p : ℕ) → take (length l - p) (drop p l) ≡ drop p l
-part-from l p = take-all (length l - p) (drop p l) (rw length-drop (omega arith))
 
 -- where cells stand from a place on, the place is within
 pub place-within : (l : List ℕ) (p : ℕ) → 0 < length (drop p l) → p < length l

@@ -15,19 +15,19 @@ use Rattle.terms.specs.Mask.{Has}
 use Rattle.terms.specs.Walk.{cellsOf}
 use Rattle.terms.specs.Store.{noPlace, cellsAt, termsAt, firstTerm, bound, Stands, StandAll, unbound, followed, node, done, more}
 use Rattle.terms.specs.Unified.{Unified, Bindings, StoreOf}
-use Rattle.terms.specs.Unifying.{steps, stepsAll, baseOf, free, most, Kept, AllReplaced}
+use Rattle.terms.specs.Unifying.{steps, stepsAll, baseOf, free, most, RightStore, AllReplaced}
 use Rattle.terms.proofs.Walks.{Union}
-use Rattle.terms.proofs.Standing.{Bindings as Stored, stands-sub, bound-follows}
+use Rattle.terms.proofs.Standing.{BoundTerms, stands-sub, bound-follows}
 use Rattle.terms.proofs.Stores.{extended}
 use Rattle.terms.proofs.Joining.{stands-once}
 use Rattle.terms.proofs.Standings.{next-term}
 use Rattle.terms.proofs.Binding.{bound-now, bound-elsewhere, place-unbound}
-use Rattle.terms.proofs.Comparing.{same-inside}
-use Rattle.terms.proofs.Bound.{itself, gained-set, kept-bound}
-use Rattle.terms.proofs.Atoms.{noPlaces, alone, kept-at-first, no-place-at}
+use Rattle.terms.proofs.Parts.{same-inside}
+use Rattle.terms.proofs.Bound.{itself, gained-set, store-bound}
+use Rattle.terms.proofs.Atoms.{noPlaces, alone, store-at-first, no-place-at}
 
 -- a store and a smaller one, whose bindings are among its own
-module _ (b whole : Stored) (among : (y : ℕ) (t : Term) → b y ≡ some t → whole y ≡ some t) (x : ℕ) where
+module _ (b whole : BoundTerms) (among : (y : ℕ) (t : Term) → b y ≡ some t → whole y ≡ some t) (x : ℕ) where
   -- what x stands for is found on the way to what a term stands for, where x is in what the smaller store has for the term
   mutual
     found-inside : {t u w : Term} → Stands b t u → Occ x u → (d : Stands whole t w)
@@ -57,7 +57,7 @@ module _ (b whole : Stored) (among : (y : ℕ) (t : Term) → b y ≡ some t →
 pub record Refilled (F a b places sets : List ℕ) (x : ℕ) : Type 0 where
   pub filled : List ℕ
   pub σ : Subst
-  pub kept : Kept F a b filled sets σ
+  pub store : RightStore F a b filled sets σ
   pub passed : (y : ℕ) → y < x → bound F a b filled y ≡ bound F a b places y
   pub to-come : (y : ℕ) → x ≤ y → bound F a b filled y ≡ none
 
@@ -68,7 +68,7 @@ module _ (F a b places : List ℕ) (S : StoreOf F a b places) where
       record {
         filled = noPlaces;
         σ = var;
-        kept = kept-at-first F a b (S .first-short) (S .second-short);
+        store = store-at-first F a b (S .first-short) (S .second-short);
         passed = λ y h. absurd (omega arith);
         to-come = λ y h. place-unbound F a b noPlaces y (omega (arith, no-place-at y));
       }
@@ -94,7 +94,7 @@ module _ (F a b places : List ℕ) (S : StoreOf F a b places) where
         record {
           filled = R .filled;
           σ = R .σ;
-          kept = R .kept;
+          store = R .store;
           passed = λ y l. at y l (ℕ-discrete y x);
           to-come = λ y l. R .to-come y (omega arith);
         }
@@ -121,14 +121,14 @@ module _ (F a b places : List ℕ) (S : StoreOf F a b places) where
       none-yet : bound F a b (R .filled) x ≡ none
       none-yet = R .to-come x (le-refl x)
 
-      union-whole : Union (enc (next-term F a b p 0 (R .kept .first-short) run .term)) (baseOf p) sets gained
-      union-whole = rw (next-term F a b p 0 (R .kept .first-short) run .cut) at union
+      union-whole : Union (enc (next-term F a b p 0 (R .store .first-short) run .term)) (baseOf p) sets gained
+      union-whole = rw (next-term F a b p 0 (R .store .first-short) run .cut) at union
 
       fresh : Has gained x → ⊥
       fresh h =
-          let o = gained-set F a b (R .filled) sets (R .σ) x p gained (R .kept) small none-yet run is-place union-whole x .0 h in
+          let o = gained-set F a b (R .filled) sets (R .σ) x p gained (R .store) small none-yet run is-place union-whole x .0 h in
           no-cycle (bound F a b (R .filled)) (bound F a b places) among x bound-here
-          (stands-sub (bound F a b (R .filled)) (R .σ) (most (32 - free (R .filled))) (R .kept .full) (firstTerm (termsAt F a b p)) .0) o
+          (stands-sub (bound F a b (R .filled)) (R .σ) (most (32 - free (R .filled))) (R .store .full) (firstTerm (termsAt F a b p)) .0) o
           (steps (unified .stands x)) (unified .stands x) (le-refl (steps (unified .stands x)))
 
       -- a bound variable is bound again
@@ -137,14 +137,14 @@ module _ (F a b places : List ℕ) (S : StoreOf F a b places) where
           record {
             filled = set (R .filled) x p;
             σ = extended (R .σ) x (firstTerm (termsAt F a b p))
-                (itself F a b (R .filled) sets (R .σ) x p gained (R .kept) small none-yet run is-place);
-            kept = kept-bound F a b (R .filled) sets (R .σ) x p gained (R .kept) small none-yet run is-place sets′ union-whole fresh replaced;
+                (itself F a b (R .filled) sets (R .σ) x p gained (R .store) small none-yet run is-place);
+            store = store-bound F a b (R .filled) sets (R .σ) x p gained (R .store) small none-yet run is-place sets′ union-whole fresh replaced;
             passed = λ y l. at y l (ℕ-discrete y x);
             to-come = λ y l. bound-elsewhere F a b (R .filled) x p within y (λ e. omega arith) ∙ R .to-come y (omega arith);
           }
         where
           within : x < length (R .filled)
-          within = omega (arith, R .kept .all-places)
+          within = omega (arith, R .store .all-places)
 
           at : (y : ℕ) → y < x + 1 → Dec (y ≡ x) → bound F a b (set (R .filled) x p) y ≡ bound F a b places y
           at y l (yes e) = rw e (bound-now F a b (R .filled) x p within is-place ∙ sym bound-here)
@@ -161,8 +161,8 @@ module _ (F a b places : List ℕ) (S : StoreOf F a b places) where
         most-general = U .most-general;
         sets-right =
             record {
-              first = λ v h z. rw (same v) (R .kept .sets-right v z (omega arith));
-              second = λ v h z. rw (same (16 + v)) (R .kept .sets-right (16 + v) z (omega arith));
+              first = λ v h z. rw (same v) (R .store .sets-right v z (omega arith));
+              second = λ v h z. rw (same (16 + v)) (R .store .sets-right (16 + v) z (omega arith));
             };
         all-places = U .all-places;
         whole = U .whole;
@@ -178,4 +178,4 @@ module _ (F a b places : List ℕ) (S : StoreOf F a b places) where
       all-bound = fun-ext (λ y. at y (decLt y 32))
 
       same : (y : ℕ) → bindings .1 .σ y ≡ R .σ y
-      same y = stands-once (bindings .1 .stands y) (subst (λ (s : Stored). Stands s (var y) (R .σ y)) all-bound (R .kept .full .stands y))
+      same y = stands-once (bindings .1 .stands y) (subst (λ (s : BoundTerms). Stands s (var y) (R .σ y)) all-bound (R .store .full .stands y))

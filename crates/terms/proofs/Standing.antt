@@ -13,19 +13,19 @@ use Rattle.terms.specs.Cells.{enc, encs}
 use Rattle.terms.specs.Store.{Stands, StandAll, unbound, followed, node, done, more}
 use Rattle.terms.specs.Unifying.{steps, stepsAll, Full}
 
-abbrev pub Bindings : Type 0
-Bindings = ℕ → Option Term
+abbrev pub BoundTerms : Type 0
+BoundTerms = ℕ → Option Term
 
 -- where every variable stands for something, so does every term, in at most so many steps for each of its cells
 unfoldable mutual
-  pub stands-sub : (b : Bindings) (σ : Subst) (c : ℕ) → Full b σ c → (t : Term)
+  pub stands-sub : (b : BoundTerms) (σ : Subst) (c : ℕ) → Full b σ c → (t : Term)
       → (d : Stands b t (sub t σ)) × (steps d ≤ length (enc t) * suc (suc c))
   stands-sub b σ c F (var x) = (F .stands x, rw one-mul (omega (arith, F .few x)))
   stands-sub b σ c F (app f ts) =
       let r = stand-subs b σ c F ts in
       (node (r .0), rw suc-mul (omega (arith, r .1)))
 
-  pub stand-subs : (b : Bindings) (σ : Subst) (c : ℕ) → Full b σ c → (ts : Terms)
+  pub stand-subs : (b : BoundTerms) (σ : Subst) (c : ℕ) → Full b σ c → (ts : Terms)
       → (d : StandAll b ts (subs ts σ)) × (stepsAll d ≤ suc (length (encs ts) * suc (suc c)))
   stand-subs b σ c F nil = (done, omega arith)
   stand-subs b σ c F (cons t ts) =
@@ -35,23 +35,23 @@ unfoldable mutual
 
 -- what a term stands for in full has only unbound variables
 mutual
-  pub stands-unbound : {b : Bindings} {t u : Term} → Stands b t u → (z : ℕ) → Occ z u → b z ≡ none
+  pub stands-unbound : {b : BoundTerms} {t u : Term} → Stands b t u → (z : ℕ) → Occ z u → b z ≡ none
   stands-unbound {b} (unbound e) z o = ap b o ∙ e
   stands-unbound (followed e d) z o = stands-unbound d z o
   stands-unbound (node ds) z o = stand-unbound ds z o
 
-  pub stand-unbound : {b : Bindings} {ts us : Terms} → StandAll b ts us → (z : ℕ) → Occs z us → b z ≡ none
+  pub stand-unbound : {b : BoundTerms} {ts us : Terms} → StandAll b ts us → (z : ℕ) → Occs z us → b z ≡ none
   stand-unbound done z o = absurd o
   stand-unbound (more d ds) z (inl o) = stands-unbound d z o
   stand-unbound (more d ds) z (inr o) = stand-unbound ds z o
 
 -- an unbound variable stands for itself
-pub unbound-itself : (b : Bindings) (x : ℕ) (u : Term) → Stands b (var x) u → b x ≡ none → u ≡ var x
+pub unbound-itself : (b : BoundTerms) (x : ℕ) (u : Term) → Stands b (var x) u → b x ≡ none → u ≡ var x
 unbound-itself b x u (unbound e) h = refl
 unbound-itself b x u (followed {t = t} e d) h = absurd (Option·none-ne-some t (sym h ∙ e))
 
 -- a bound variable stands for what its term stands for, one step further
-pub bound-follows : (b : Bindings) (x : ℕ) (t u : Term) (d : Stands b (var x) u) → b x ≡ some t
+pub bound-follows : (b : BoundTerms) (x : ℕ) (t u : Term) (d : Stands b (var x) u) → b x ≡ some t
     → (e : Stands b t u) × (steps d ≡ suc (steps e))
 bound-follows b x t u (unbound e) h = absurd (Option·none-ne-some t (sym e ∙ h))
 bound-follows b x t u (followed {t = s} e d) h = go (Option·some-injective s t (sym e ∙ h))
@@ -60,7 +60,7 @@ bound-follows b x t u (followed {t = s} e d) h = go (Option·some-injective s t 
     go q = subst (λ (r : Term). (e : Stands b r u) × (suc (steps d) ≡ suc (steps e))) q (d, refl)
 
 -- one more binding: x, unbound before, is bound to t, which stands for v; x does not occur in v
-module _ (b b′ : Bindings) (x : ℕ) (t v : Term) (was : b x ≡ none) (now-bound : b′ x ≡ some t)
+module _ (b b′ : BoundTerms) (x : ℕ) (t v : Term) (was : b x ≡ none) (now-bound : b′ x ≡ some t)
     (elsewhere : (y : ℕ) → (y ≡ x → ⊥) → b′ y ≡ b y) (stood : Stands b t v) (absent : Occ x v → ⊥) where
   mutual
     pub stands-still : {s w : Term} (d : Stands b s w) → (Occ x w → ⊥) → (e : Stands b′ s w) × (steps e ≡ steps d)

@@ -1,19 +1,16 @@
 -- Solutions of a store of bindings, and what one more binding does to them.
 use Prim.Native.Nat.{ℕ}
-use mathlib.Core.Path.{_≡_, refl, sym, ap, _∙_, fun-ext}
+use mathlib.Core.Path.{_≡_, refl, sym, ap, _∙_}
 use mathlib.Core.Logic.{_↔_}
 use native.Mathlib.Decide.{ℕ-discrete}
-use Rattle.terms.specs.Term.{Term, Terms, var, Subst, sub, subs, comp}
+use Rattle.terms.specs.Term.{Term, var, Subst, sub, comp}
 use Rattle.terms.specs.Unifying.{Solves}
-use Rattle.terms.proofs.Substs.{sub-comp, subs-comp, sub-agree}
+use Rattle.terms.proofs.Substs.{sub-comp, sub-agree}
 use Rattle.terms.proofs.Solutions.{bind, bind-same, bind-other}
 
 -- under a solution a term is what it stands for
 pub solves-sub : (σ τ : Subst) → Solves σ τ → (t : Term) → sub (sub t σ) τ ≡ sub t τ
 solves-sub σ τ h t = sub-comp t σ τ ∙ sub-agree t (comp σ τ) τ (λ x _. h x)
-
-pub solves-subs : (σ τ : Subst) → Solves σ τ → (ts : Terms) → subs (subs ts σ) τ ≡ subs ts τ
-solves-subs σ τ h ts = subs-comp ts σ τ ∙ ap (subs ts) (fun-ext h)
 
 -- the solutions of a store with one more binding are its solutions that agree with the binding
 module _ (σ : Subst) (x : ℕ) (t : Term) (itself : σ x ≡ var x) where

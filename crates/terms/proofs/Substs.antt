@@ -99,7 +99,3 @@ mutual
 -- a ground term stays as it is
 pub ground-sub : (t : Term) (σ : Subst) → Ground t → sub t σ ≡ t
 ground-sub t σ g = sub-agree t σ var (λ x o. absurd (all-occ (λ _. ⊥) t g x o)) ∙ sub-var t
-
--- "t under a substitution is ground exactly when each of its variables goes to a ground term"
-pub ground-under : (t : Term) (σ : Subst) → Ground (sub t σ) ≡ All (λ x. Ground (σ x)) t
-ground-under t σ = all-sub (λ _. ⊥) t σ

@@ -10,28 +10,28 @@ use lib.ListN.{length, length-append}
 use Rattle.terms.specs.Term.{Term, Terms, var, app, nil, cons, Subst}
 use Rattle.terms.specs.Cells.{enc, encs, atomCells}
 use Rattle.terms.specs.Store.{bound, Stands, StandAll, unbound, followed, node, done, more}
-use Rattle.terms.specs.Unifying.{steps, stepsAll, free, most, Kept}
-use Rattle.terms.proofs.Standing.{Bindings, stands-sub, stand-subs, bound-follows}
+use Rattle.terms.specs.Unifying.{steps, stepsAll, free, most, RightStore}
+use Rattle.terms.proofs.Standing.{BoundTerms, stands-sub, stand-subs, bound-follows}
 
 -- how many steps it takes to find what terms stand for, tried for at most k steps
 unfoldable mutual
-  pub reach : ℕ → Bindings → Term → ℕ
+  pub reach : ℕ → BoundTerms → Term → ℕ
   reach zero b t = zero
   reach (suc k) b (var x) = elim (b x) [ none ↦ 1 | some t ↦ suc (reach k b t) ]
   reach (suc k) b (app f ts) = suc (reach-all k b ts)
 
-  pub reach-all : ℕ → Bindings → Terms → ℕ
+  pub reach-all : ℕ → BoundTerms → Terms → ℕ
   reach-all zero b ts = zero
   reach-all (suc k) b nil = 1
   reach-all (suc k) b (cons t ts) = reach k b t + reach-all k b ts
 
 -- every finding takes a step at least
-steps-some : {b : Bindings} {t u : Term} (d : Stands b t u) → 1 ≤ steps d
+steps-some : {b : BoundTerms} {t u : Term} (d : Stands b t u) → 1 ≤ steps d
 steps-some (unbound e) = omega arith
 steps-some (followed e d) = omega arith
 steps-some (node ds) = omega arith
 
-all-steps-some : {b : Bindings} {ts us : Terms} (d : StandAll b ts us) → 1 ≤ stepsAll d
+all-steps-some : {b : BoundTerms} {ts us : Terms} (d : StandAll b ts us) → 1 ≤ stepsAll d
 all-steps-some done = omega arith
 all-steps-some (more d ds) = omega (arith, steps-some d)
 
@@ -39,7 +39,7 @@ all-steps-some (more d ds) = omega (arith, steps-some d)
 mutual
   unfolding reach
 
-  pub reach-steps : {b : Bindings} {t u : Term} (d : Stands b t u) (k : ℕ) → steps d ≤ k → reach k b t ≡ steps d
+  pub reach-steps : {b : BoundTerms} {t u : Term} (d : Stands b t u) (k : ℕ) → steps d ≤ k → reach k b t ≡ steps d
   reach-steps (unbound e) zero h = absurd (omega arith)
   reach-steps (unbound e) (suc k) h = (rw e refl)
   reach-steps (followed e d) zero h = absurd (omega arith)
@@ -47,7 +47,7 @@ mutual
   reach-steps (node ds) zero h = absurd (omega arith)
   reach-steps (node ds) (suc k) h = (ap suc (reach-all-steps ds k (omega arith)))
 
-  pub reach-all-steps : {b : Bindings} {ts us : Terms} (d : StandAll b ts us) (k : ℕ) → stepsAll d ≤ k → reach-all k b ts ≡ stepsAll d
+  pub reach-all-steps : {b : BoundTerms} {ts us : Terms} (d : StandAll b ts us) (k : ℕ) → stepsAll d ≤ k → reach-all k b ts ≡ stepsAll d
   reach-all-steps done zero h = absurd (omega arith)
   reach-all-steps done (suc k) h = refl
   reach-all-steps (more d ds) zero h = absurd (omega (arith, steps-some d))
@@ -55,7 +55,7 @@ mutual
       (ap₂ _+_ (reach-steps d k (omega (arith, all-steps-some ds))) (reach-all-steps ds k (omega (arith, steps-some d))))
 
 -- however it is found, it takes as many steps
-steps-once : {b : Bindings} {t u w : Term} (d : Stands b t u) (e : Stands b t w) → steps d ≡ steps e
+steps-once : {b : BoundTerms} {t u w : Term} (d : Stands b t u) (e : Stands b t w) → steps d ≡ steps e
 steps-once d e = sym (reach-steps d (steps d + steps e) (omega arith)) ∙ reach-steps e (steps d + steps e) (omega arith)
 
 -- more steps than the terms of an atom can take; and more than those of two atoms together
@@ -79,10 +79,10 @@ most-most : (k : ℕ) → k ≤ 32 → most k ≤ most 32
 most-most k h = let e : 32 - k + k ≡ 32 = omega arith in subst (λ (n : ℕ). most k ≤ most n) e (most-grows k (32 - k))
 
 -- the weight of two lists of terms under a store
-pub weight : List ℕ → Bindings → Terms → Terms → ℕ
+pub weight : List ℕ → BoundTerms → Terms → Terms → ℕ
 weight places b ss ts = free places * factor + (reach-all enough b ss + reach-all enough b ts)
 
-module _ (F a b places sets : List ℕ) (σ : Subst) (K : Kept F a b places sets σ) where
+module _ (F a b places sets : List ℕ) (σ : Subst) (K : RightStore F a b places sets σ) where
   -- what terms of an atom stand for is found in fewer steps than are tried
   found-all : (ts : Terms) → length (encs ts) ≤ atomCells
       → (reach-all enough (bound F a b places) ts ≡ stepsAll (stand-subs (bound F a b places) σ (most (32 - free places)) (K .full) ts .0))
@@ -145,7 +145,7 @@ module _ (F a b places sets : List ℕ) (σ : Subst) (K : Kept F a b places sets
       omega (arith, found-all ss ls .0, found-all ts lt .0, found-all (cons s ss) h .0, found-all (cons t ts) k .0)
 
 -- with fewer unbound variables everything weighs less
-pub lighter-fewer : (F a b places sets places′ sets′ : List ℕ) (σ σ′ : Subst) → Kept F a b places sets σ → Kept F a b places′ sets′ σ′
+pub lighter-fewer : (F a b places sets places′ sets′ : List ℕ) (σ σ′ : Subst) → RightStore F a b places sets σ → RightStore F a b places′ sets′ σ′
     → free places′ < free places → (ss ts ss′ ts′ : Terms) → length (encs ss′) ≤ atomCells → length (encs ts′) ≤ atomCells
     → weight places′ (bound F a b places′) ss′ ts′ < weight places (bound F a b places) ss ts
 unfolding weight factor

@@ -56,7 +56,7 @@ most (suc k) = most k * suc (atomCells * suc (suc (most k)))
 
 -- the two atoms and the store: every binding is a whole term of one of the atoms, every variable stands for what σ gives it, and
 -- each set has the variables of what its variable stands for
-pub record Kept (arities a b places sets : List ℕ) (σ : Subst) : Type 0 where
+pub record RightStore (arities a b places sets : List ℕ) (σ : Subst) : Type 0 where
   pub first-short : length a ≤ atomCells
   pub second-short : length b ≤ atomCells
   pub all-places : length places ≡ 32
@@ -72,7 +72,7 @@ Solves σ τ = (x : ℕ) → sub (σ x) τ ≡ τ x
 -- the terms were made equal: the store's solutions are those from before that make them equal
 pub record Joined (arities a b places sets : List ℕ) (σ : Subst) (ss ts : Terms) (places′ sets′ : List ℕ) : Type 0 where
   pub after : Subst
-  pub kept : Kept arities a b places′ sets′ after
+  pub store : RightStore arities a b places′ sets′ after
   pub solves : (τ : Subst) → Solves after τ ↔ (Solves σ τ × (subs ss τ ≡ subs ts τ))
   pub fewer : (free places′ < free places) ⊎ ((places′ ≡ places) × (sets′ ≡ sets))
 
@@ -83,7 +83,7 @@ Parted σ ss ts = (τ : Subst) → Solves σ τ → subs ss τ ≡ subs ts τ �
 -- what a step answers
 abbrev pub Outcome : List ℕ → List ℕ → List ℕ → List ℕ → List ℕ → Terms → Terms → Bool → List ℕ → List ℕ → Type 0
 Outcome arities a b places sets ss ts r places′ sets′ =
-    (σ : Subst) → Kept arities a b places sets σ → pick r (Joined arities a b places sets σ ss ts places′ sets′) (Parted σ ss ts)
+    (σ : Subst) → RightStore arities a b places sets σ → pick r (Joined arities a b places sets σ ss ts places′ sets′) (Parted σ ss ts)
 
 -- what stands at a place is followed as far as it goes: a function's term, or an unbound variable other than x
 abbrev pub Followed : (ℕ → Option Term) → ℕ → Term → Type 0
@@ -104,7 +104,7 @@ baseOf p = pick (ltb p secondAtom) 0 variables
 -- x can be bound to the term at a place
 pub record Bindable (arities a b places sets : List ℕ) (x p : ℕ) : Type 0 where
   pub σ : Subst
-  pub kept : Kept arities a b places sets σ
+  pub store : RightStore arities a b places sets σ
   pub small : x < 32
   pub unbound-yet : bound arities a b places x ≡ none
   pub run : Run arities (cellsAt a b p) 1
@@ -114,7 +114,7 @@ pub record Bindable (arities a b places sets : List ℕ) (x p : ℕ) : Type 0 wh
 -- n terms at each of two places can be compared
 pub record Comparable (arities a b places sets : List ℕ) (s t n : ℕ) : Type 0 where
   pub σ : Subst
-  pub kept : Kept arities a b places sets σ
+  pub store : RightStore arities a b places sets σ
   pub first-run : Run arities (cellsAt a b s) n
   pub second-run : Run arities (cellsAt a b t) n
   pub first-place : s < noPlace

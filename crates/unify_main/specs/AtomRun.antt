@@ -21,6 +21,6 @@ pub record AtomRun (predicates functions cells : List ℕ) : Type 0 where
   pub atom : Atom predicates functions term
 
 -- every binding of the store is a whole term of one of the two atoms
-pub record Bindings (functions a b places : List ℕ) : Type 0 where
+pub record WholeBindings (functions a b places : List ℕ) : Type 0 where
   pub all-places : length places ≡ 32
   pub whole : (x : ℕ) → getD places x noPlace < noPlace → Run functions (cellsAt a b (getD places x noPlace)) 1

@@ -15,7 +15,7 @@ use terms::walk::wide_byte;
 ghost use Prim.Native.Nat.{_≤_, _<_};
 ghost use Rattle.terms.specs.Cells.{Run};
 ghost use Rattle.terms.specs.Store.{cellsAt};
-ghost use Rattle.unify_main.specs.AtomRun.{AtomRun, Bindings};
+ghost use Rattle.unify_main.specs.AtomRun.{AtomRun, WholeBindings};
 
 // Predicate n has n arguments.
 const PREDICATES: [u16; 9] = [0, 1, 2, 3, 4, 5, 6, 7, 8];
@@ -44,7 +44,7 @@ fn put_variables<'a>(
     variables: u32,
     base: usize,
 )
-    requires { ⌜ Bindings (now functions) (now a) (now b) (now places) × (base ≤ 16) ⌝ }
+    requires { ⌜ WholeBindings (now functions) (now a) (now b) (now places) × (base ≤ 16) ⌝ }
 {
     let mut v = 0;
     while v < FIRST_VARIABLES {

@@ -7,7 +7,7 @@ use lib.ListN.{length, getD, take, drop, length-drop}
 use lib.Seq.{drop-drop}
 use Rattle.terms.specs.Term.{Term}
 use Rattle.terms.specs.Cells.{enc, encs, Run}
-use Rattle.terms.proofs.Places.{part-from}
+use Rattle.terms.proofs.Parts.{part-from}
 use Rattle.program.specs.Within.{after, modesOf}
 use Rattle.text.specs.Line.{tab}
 use Rattle.directory.specs.From.{Atom-from, Goal-from}

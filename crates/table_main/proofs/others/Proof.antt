@@ -1,8 +1,6 @@
 -- `others` is safe: the count is at most the words gone by. The measure is the words left.
 -- Assumes nothing.
 use Prim.Native.Nat.{_≤_, _-_}
-use mathlib.Core.Path.{_≡_}
-use native.Mathlib.Omega.{arith}
 use borrow.Author.Needs.{needs}
 use lib.ListN.{length}
 use Rattle.table_main.proofs.others.Statement.{statement}

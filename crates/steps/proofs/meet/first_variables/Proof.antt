@@ -1,5 +1,5 @@
 -- `first_variables` meets its contract: 2^count - 1 marks the variables below the count, and a shift by at most 16 loses nothing. Assumes nothing.
-use Prim.Native.Nat.{ℕ, _*_, _-_, _%_, _^_, _≤_}
+use Prim.Native.Nat.{ℕ, _*_, _%_, _^_, _≤_}
 use native.Mathlib.Omega.{arith}
 use native.Mathlib.Nat.{one-mul, mod-eq-of-lt}
 use mathlib.Core.Path.{_≡_}

@@ -39,7 +39,7 @@ set-at-requires c κs =
 replace-requires : tie.Need-replace-requires Inv-loop μ-loop
 replace-requires c κs =
     let t = c .before .before .before .before .before .before in
-    (t .loop-test .taken, t .before .loop .inv .1 .kept .all-sets)
+    (t .loop-test .taken, t .before .loop .inv .1 .store .all-sets)
 
 add-x : tie.Need-add-x Inv-loop μ-loop
 add-x c = omega (arith, c .before .before .loop-test .taken)

@@ -68,15 +68,15 @@ pub +unify-term+unify-terms-spec : {M : Type 1} → statement M
     unify-term.Post
     (λ c κs. let st = c .before .before .before .before in let F = st .args .functions .now in let a = st .args .a .now in let b = st .args .b .now in
     let s = st .args .s in let R = st .pre .1 in
-    cell-at F a b s (R .kept .first-short) (R .first-run))  -- unify-term-look-at-requires
+    cell-at F a b s (R .store .first-short) (R .first-run))  -- unify-term-look-at-requires
     (λ c κs. let st = c .before .before .before .before .before .before in let F = st .args .functions .now in let a = st .args .a .now in
     let b = st .args .b .now in let t = st .args .t in let R = st .pre .1 in
-    cell-at F a b t (R .kept .first-short) (R .second-run))  -- unify-term-look-at-requires-2
+    cell-at F a b t (R .store .first-short) (R .second-run))  -- unify-term-look-at-requires-2
     (λ c. search needs)  -- unify-term-enum-known-first
     (λ c κs. let st = c .before .before .before .before .before .before .before .before .before .before .before .before in let F = st .args .functions .now in
     let a = st .args .a .now in let b = st .args .b .now in let s = st .args .s in let t = st .args .t in let Q = st .args .places .now in
     let S = st .args .sets .now in let R = st .pre .1 in
-    let M = (looked-as F a b Q S (R .σ) s (R .kept) (R .first-run) _ _ (c .before .before .before .before .before .before .before .look-at .ensures)
+    let M = (looked-as F a b Q S (R .σ) s (R .store) (R .first-run) _ _ (c .before .before .before .before .before .before .before .look-at .ensures)
     (c .before .before .before .first .given .1)) in
     (rw (← st .pre .0) (omega (arith, follow-first-lighter F a b Q S s t R _ M)), follow-first F a b Q S s t R _ M))  -- unify-term-unify-term-requires
     (λ c. search needs)  -- unify-term-enum-known-first-2
@@ -84,36 +84,36 @@ pub +unify-term+unify-terms-spec : {M : Type 1} → statement M
     (λ c κs. let st = c .before .before .before .before .before .before .before .before .before .before .before .before .before .before .before in
     let F = st .args .functions .now in let a = st .args .a .now in let b = st .args .b .now in let s = st .args .s in let t = st .args .t in
     let Q = st .args .places .now in let S = st .args .sets .now in let R = st .pre .1 in
-    let M = (looked-as F a b Q S (R .σ) t (R .kept) (R .second-run) _ _ (c .before .before .before .before .before .before .before .before .look-at2 .ensures)
+    let M = (looked-as F a b Q S (R .σ) t (R .store) (R .second-run) _ _ (c .before .before .before .before .before .before .before .before .look-at2 .ensures)
     (c .before .before .before .second .given .1)) in
     (rw (← st .pre .0) (omega (arith, follow-second-lighter F a b Q S s t R _ M)), follow-second F a b Q S s t R _ M))  -- unify-term-unify-term-requires-2
     (λ c. search needs)  -- unify-term-enum-known-second-2
     (λ c. let st = c .before .before .before .before .before .before .before .before .before .before .before .before .before .before in
     let F = st .args .functions .now in let a = st .args .a .now in let b = st .args .b .now in let s = st .args .s in let t = st .args .t in
     let Q = st .args .places .now in let S = st .args .sets .now in let R = st .pre .1 in
-    let M = (looked-as F a b Q S (R .σ) s (R .kept) (R .first-run) _ _
+    let M = (looked-as F a b Q S (R .σ) s (R .store) (R .first-run) _ _
     (c .before .before .before .before .before .before .before .before .before .look-at .ensures)
     (c .before .before .before .before .before .first2 .given .1)) in
-    let N = (looked-as F a b Q S (R .σ) t (R .kept) (R .second-run) _ _ (c .before .before .before .before .before .before .before .look-at2 .ensures)
+    let N = (looked-as F a b Q S (R .σ) t (R .store) (R .second-run) _ _ (c .before .before .before .before .before .before .before .look-at2 .ensures)
     (c .before .before .second2 .given .1)) in
     same-outcome F a b Q S s t R _ M (subst (λ y. Means F a b Q t (Unbound y)) (sym (c .if1 .taken)) N))  -- unify-term-returns
     (λ c κs. let st = c .before .before .before .before .before .before .before .before .before .before .before .before .before .before .before .before in
     let F = st .args .functions .now in let a = st .args .a .now in let b = st .args .b .now in let s = st .args .s in let t = st .args .t in
     let Q = st .args .places .now in let S = st .args .sets .now in let R = st .pre .1 in
-    let M = (looked-as F a b Q S (R .σ) s (R .kept) (R .first-run) _ _
+    let M = (looked-as F a b Q S (R .σ) s (R .store) (R .first-run) _ _
     (c .before .before .before .before .before .before .before .before .before .before .before .look-at .ensures)
     (c .before .before .before .before .before .before .before .first2 .given .1)) in
-    let N = (looked-as F a b Q S (R .σ) t (R .kept) (R .second-run) _ _
+    let N = (looked-as F a b Q S (R .σ) t (R .store) (R .second-run) _ _
     (c .before .before .before .before .before .before .before .before .before .look-at2 .ensures) (c .before .before .before .before .second2 .given .1)) in
     bind-first F a b Q S s t R _ M (inr (_, N .0, N .1, λ e. c .before .before .if1 .left (sym e))))  -- unify-term-bind-requires
     (λ c. search needs)  -- unify-term-enum-told
     (λ c κs. let st = c .before .before .before .before .before .before .before .before .before .before .before .before .before .before in
     let F = st .args .functions .now in let a = st .args .a .now in let b = st .args .b .now in let s = st .args .s in let t = st .args .t in
     let Q = st .args .places .now in let S = st .args .sets .now in let R = st .pre .1 in
-    let M = (looked-as F a b Q S (R .σ) s (R .kept) (R .first-run) _ _
+    let M = (looked-as F a b Q S (R .σ) s (R .store) (R .first-run) _ _
     (c .before .before .before .before .before .before .before .before .before .look-at .ensures)
     (c .before .before .before .before .before .first2 .given .1)) in
-    let N = (looked-as F a b Q S (R .σ) t (R .kept) (R .second-run) _ _ (c .before .before .before .before .before .before .before .look-at2 .ensures)
+    let N = (looked-as F a b Q S (R .σ) t (R .store) (R .second-run) _ _ (c .before .before .before .before .before .before .before .look-at2 .ensures)
     (c .before .before .enum-told .given .1)) in
     bind-first F a b Q S s t R _ M (inl (_, _, N .0)))  -- unify-term-bind-requires-2
     (λ c. search needs)  -- unify-term-enum-known-first-3
@@ -121,27 +121,27 @@ pub +unify-term+unify-terms-spec : {M : Type 1} → statement M
     (λ c κs. let st = c .before .before .before .before .before .before .before .before .before .before .before .before .before .before .before in
     let F = st .args .functions .now in let a = st .args .a .now in let b = st .args .b .now in let s = st .args .s in let t = st .args .t in
     let Q = st .args .places .now in let S = st .args .sets .now in let R = st .pre .1 in
-    let M = (looked-as F a b Q S (R .σ) t (R .kept) (R .second-run) _ _ (c .before .before .before .before .before .before .before .before .look-at2 .ensures)
+    let M = (looked-as F a b Q S (R .σ) t (R .store) (R .second-run) _ _ (c .before .before .before .before .before .before .before .before .look-at2 .ensures)
     (c .before .before .before .second3 .given .1)) in
     (rw (← st .pre .0) (omega (arith, follow-second-lighter F a b Q S s t R _ M)), follow-second F a b Q S s t R _ M))  -- unify-term-unify-term-requires-3
     (λ c. search needs)  -- unify-term-enum-known-second-4
     (λ c κs. let st = c .before .before .before .before .before .before .before .before .before .before .before .before .before .before .before in
     let F = st .args .functions .now in let a = st .args .a .now in let b = st .args .b .now in let s = st .args .s in let t = st .args .t in
     let Q = st .args .places .now in let S = st .args .sets .now in let R = st .pre .1 in
-    let M = (looked-as F a b Q S (R .σ) s (R .kept) (R .first-run) _ _
+    let M = (looked-as F a b Q S (R .σ) s (R .store) (R .first-run) _ _
     (c .before .before .before .before .before .before .before .before .before .before .look-at .ensures)
     (c .before .before .before .before .before .before .first3 .given .1)) in
-    let N = (looked-as F a b Q S (R .σ) t (R .kept) (R .second-run) _ _ (c .before .before .before .before .before .before .before .before .look-at2 .ensures)
+    let N = (looked-as F a b Q S (R .σ) t (R .store) (R .second-run) _ _ (c .before .before .before .before .before .before .before .before .look-at2 .ensures)
     (c .before .before .before .second4 .given .1)) in
     bind-second F a b Q S s t R _ N (inl (_, _, M .0)))  -- unify-term-bind-requires-3
     (λ c. search needs)  -- unify-term-enum-known-second-5
     (λ c. let st = c .before .before .before .before .before .before .before .before .before .before .before .before .before .before in
     let F = st .args .functions .now in let a = st .args .a .now in let b = st .args .b .now in let s = st .args .s in let t = st .args .t in
     let Q = st .args .places .now in let S = st .args .sets .now in let R = st .pre .1 in
-    let M = (looked-as F a b Q S (R .σ) s (R .kept) (R .first-run) _ _
+    let M = (looked-as F a b Q S (R .σ) s (R .store) (R .first-run) _ _
     (c .before .before .before .before .before .before .before .before .before .look-at .ensures)
     (c .before .before .before .before .before .first3 .given .1)) in
-    let N = (looked-as F a b Q S (R .σ) t (R .kept) (R .second-run) _ _ (c .before .before .before .before .before .before .before .look-at2 .ensures)
+    let N = (looked-as F a b Q S (R .σ) t (R .store) (R .second-run) _ _ (c .before .before .before .before .before .before .before .look-at2 .ensures)
     (c .before .before .second5 .given .1)) in
     differ-outcome F a b Q S s t R _ _ M N (c .if2 .taken) Q S)  -- unify-term-returns-2
     (λ c κs. search needs)  -- unify-term-wide-requires
@@ -149,7 +149,7 @@ pub +unify-term+unify-terms-spec : {M : Type 1} → statement M
     (λ c. let st = c .before .before .before .before .before .before .before .before .before .before .before .before .before .before .before .before in
     let F = st .args .functions .now in let a = st .args .a .now in let b = st .args .b .now in let s = st .args .s in let Q = st .args .places .now in
     let S = st .args .sets .now in let R = st .pre .1 in
-    rw (c .before .wide .ensures .0) ((looked-as F a b Q S (R .σ) s (R .kept) (R .first-run) _ _
+    rw (c .before .wide .ensures .0) ((looked-as F a b Q S (R .σ) s (R .store) (R .first-run) _ _
     (c .before .before .before .before .before .before .before .before .before .before .before .look-at .ensures)
     (c .before .before .before .before .before .before .before .first3 .given .1)) .1))  -- unify-term-shared-slice-read-wide
     (λ c κs. search needs)  -- unify-term-wide-requires-2
@@ -163,11 +163,11 @@ pub +unify-term+unify-terms-spec : {M : Type 1} → statement M
     let st = c .before .before .before .before .before .before .before .before .before .before .before .before .before .before .before .before .before .before .before in
     let F = st .args .functions .now in let a = st .args .a .now in let b = st .args .b .now in let s = st .args .s in let t = st .args .t in
     let Q = st .args .places .now in let S = st .args .sets .now in let R = st .pre .1 in
-    let M = (looked-as F a b Q S (R .σ) s (R .kept) (R .first-run) _ _
+    let M = (looked-as F a b Q S (R .σ) s (R .store) (R .first-run) _ _
     (c .before .before .before .before .before .before .before .before .before .before .before .before .before .before .look-at .ensures)
     (c .before .before .before .before .before .before .before .before .before .before .first3 .given .1)) in
     let N = subst (λ y. Means F a b Q t (Function y)) (sym (c .before .before .before .before .before .if2 .left))
-    (looked-as F a b Q S (R .σ) t (R .kept) (R .second-run) _ _
+    (looked-as F a b Q S (R .σ) t (R .store) (R .second-run) _ _
     (c .before .before .before .before .before .before .before .before .before .before .before .before .look-at2 .ensures)
     (c .before .before .before .before .before .before .before .second5 .given .1)) in
     rw (c .before .before .wide2 .ensures .0, c .before .before .before .before .wide .ensures .0)
@@ -175,22 +175,22 @@ pub +unify-term+unify-terms-spec : {M : Type 1} → statement M
     (λ c. let st = c .before .before .before .before .before .before .before .before .before .before .before .before .before in
     let F = st .args .functions .now in let a = st .args .a .now in let b = st .args .b .now in let s = st .args .s in let t = st .args .t in
     let Q = st .args .places .now in let S = st .args .sets .now in let R = st .pre .1 in
-    follow-first-outcome F a b Q S s t R _ (looked-as F a b Q S (R .σ) s (R .kept) (R .first-run) _ _
+    follow-first-outcome F a b Q S s t R _ (looked-as F a b Q S (R .σ) s (R .store) (R .first-run) _ _
     (c .before .before .before .before .before .before .before .before .look-at .ensures) (c .before .before .before .before .first .given .1))
     (c .unify-term .result) (c .unify-term .last .1 .1 .1 .1 .1 .0) (c .unify-term .last .1 .1 .1 .1 .1 .1 .0) (c .unify-term .ensures))  -- unify-term-returns-3
     (λ c. let st = c .before .before .before .before .before .before .before .before .before .before .before .before .before .before .before .before in
     let F = st .args .functions .now in let a = st .args .a .now in let b = st .args .b .now in let s = st .args .s in let t = st .args .t in
     let Q = st .args .places .now in let S = st .args .sets .now in let R = st .pre .1 in
-    follow-second-outcome F a b Q S s t R _ (looked-as F a b Q S (R .σ) t (R .kept) (R .second-run) _ _
+    follow-second-outcome F a b Q S s t R _ (looked-as F a b Q S (R .σ) t (R .store) (R .second-run) _ _
     (c .before .before .before .before .before .before .before .before .before .look-at2 .ensures) (c .before .before .before .before .second .given .1))
     (c .unify-term2 .result) (c .unify-term2 .last .1 .1 .1 .1 .1 .0) (c .unify-term2 .last .1 .1 .1 .1 .1 .1 .0) (c .unify-term2 .ensures))  -- unify-term-returns-4
     (λ c. let st = c .before .before .before .before .before .before .before .before .before .before .before .before .before .before .before .before .before in
     let F = st .args .functions .now in let a = st .args .a .now in let b = st .args .b .now in let s = st .args .s in let t = st .args .t in
     let Q = st .args .places .now in let S = st .args .sets .now in let R = st .pre .1 in
-    let M = (looked-as F a b Q S (R .σ) s (R .kept) (R .first-run) _ _
+    let M = (looked-as F a b Q S (R .σ) s (R .store) (R .first-run) _ _
     (c .before .before .before .before .before .before .before .before .before .before .before .before .look-at .ensures)
     (c .before .before .before .before .before .before .before .before .first2 .given .1)) in
-    let N = (looked-as F a b Q S (R .σ) t (R .kept) (R .second-run) _ _
+    let N = (looked-as F a b Q S (R .σ) t (R .store) (R .second-run) _ _
     (c .before .before .before .before .before .before .before .before .before .before .look-at2 .ensures)
     (c .before .before .before .before .before .second2 .given .1)) in
     bind-first-outcome F a b Q S s t R _ M (inr (_, N .0, N .1, λ e. c .before .before .before .if1 .left (sym e))) (c .bind .result)
@@ -198,26 +198,26 @@ pub +unify-term+unify-terms-spec : {M : Type 1} → statement M
     (λ c. let st = c .before .before .before .before .before .before .before .before .before .before .before .before .before .before .before in
     let F = st .args .functions .now in let a = st .args .a .now in let b = st .args .b .now in let s = st .args .s in let t = st .args .t in
     let Q = st .args .places .now in let S = st .args .sets .now in let R = st .pre .1 in
-    let M = (looked-as F a b Q S (R .σ) s (R .kept) (R .first-run) _ _
+    let M = (looked-as F a b Q S (R .σ) s (R .store) (R .first-run) _ _
     (c .before .before .before .before .before .before .before .before .before .before .look-at .ensures)
     (c .before .before .before .before .before .before .first2 .given .1)) in
-    let N = (looked-as F a b Q S (R .σ) t (R .kept) (R .second-run) _ _ (c .before .before .before .before .before .before .before .before .look-at2 .ensures)
+    let N = (looked-as F a b Q S (R .σ) t (R .store) (R .second-run) _ _ (c .before .before .before .before .before .before .before .before .look-at2 .ensures)
     (c .before .before .before .enum-told .given .1)) in
     bind-first-outcome F a b Q S s t R _ M (inl (_, _, N .0)) (c .bind2 .result) (c .bind2 .last .1 .1 .1 .1 .1 .0) (c .bind2 .last .1 .1 .1 .1 .1 .1 .0)
     (c .bind2 .ensures))  -- unify-term-returns-6
     (λ c. let st = c .before .before .before .before .before .before .before .before .before .before .before .before .before .before .before .before in
     let F = st .args .functions .now in let a = st .args .a .now in let b = st .args .b .now in let s = st .args .s in let t = st .args .t in
     let Q = st .args .places .now in let S = st .args .sets .now in let R = st .pre .1 in
-    follow-second-outcome F a b Q S s t R _ (looked-as F a b Q S (R .σ) t (R .kept) (R .second-run) _ _
+    follow-second-outcome F a b Q S s t R _ (looked-as F a b Q S (R .σ) t (R .store) (R .second-run) _ _
     (c .before .before .before .before .before .before .before .before .before .look-at2 .ensures) (c .before .before .before .before .second3 .given .1))
     (c .unify-term3 .result) (c .unify-term3 .last .1 .1 .1 .1 .1 .0) (c .unify-term3 .last .1 .1 .1 .1 .1 .1 .0) (c .unify-term3 .ensures))  -- unify-term-returns-7
     (λ c. let st = c .before .before .before .before .before .before .before .before .before .before .before .before .before .before .before .before in
     let F = st .args .functions .now in let a = st .args .a .now in let b = st .args .b .now in let s = st .args .s in let t = st .args .t in
     let Q = st .args .places .now in let S = st .args .sets .now in let R = st .pre .1 in
-    let M = (looked-as F a b Q S (R .σ) s (R .kept) (R .first-run) _ _
+    let M = (looked-as F a b Q S (R .σ) s (R .store) (R .first-run) _ _
     (c .before .before .before .before .before .before .before .before .before .before .before .look-at .ensures)
     (c .before .before .before .before .before .before .before .first3 .given .1)) in
-    let N = (looked-as F a b Q S (R .σ) t (R .kept) (R .second-run) _ _
+    let N = (looked-as F a b Q S (R .σ) t (R .store) (R .second-run) _ _
     (c .before .before .before .before .before .before .before .before .before .look-at2 .ensures) (c .before .before .before .before .second4 .given .1)) in
     bind-second-outcome F a b Q S s t R _ N (inl (_, _, M .0)) (c .bind3 .result) (c .bind3 .last .1 .1 .1 .1 .1 .0) (c .bind3 .last .1 .1 .1 .1 .1 .1 .0)
     (c .bind3 .ensures))  -- unify-term-returns-8
@@ -225,11 +225,11 @@ pub +unify-term+unify-terms-spec : {M : Type 1} → statement M
     let st = c .before .before .before .before .before .before .before .before .before .before .before .before .before .before .before .before .before .before .before .before in
     let F = st .args .functions .now in let a = st .args .a .now in let b = st .args .b .now in let s = st .args .s in let t = st .args .t in
     let Q = st .args .places .now in let S = st .args .sets .now in let R = st .pre .1 in
-    let M = (looked-as F a b Q S (R .σ) s (R .kept) (R .first-run) _ _
+    let M = (looked-as F a b Q S (R .σ) s (R .store) (R .first-run) _ _
     (c .before .before .before .before .before .before .before .before .before .before .before .before .before .before .before .look-at .ensures)
     (c .before .before .before .before .before .before .before .before .before .before .before .first3 .given .1)) in
     let N = subst (λ y. Means F a b Q t (Function y)) (sym (c .before .before .before .before .before .before .if2 .left))
-    (looked-as F a b Q S (R .σ) t (R .kept) (R .second-run) _ _
+    (looked-as F a b Q S (R .σ) t (R .store) (R .second-run) _ _
     (c .before .before .before .before .before .before .before .before .before .before .before .before .before .look-at2 .ensures)
     (c .before .before .before .before .before .before .before .before .second5 .given .1)) in
     arguments-outcome F a b Q S s t R _ M N (c .unify-terms .result) (c .unify-terms .last .1 .1 .1 .1 .1 .1 .0) (c .unify-terms .last .1 .1 .1 .1 .1 .1 .1 .0)
@@ -261,12 +261,12 @@ pub +unify-term+unify-terms-spec : {M : Type 1} → statement M
     let b = st .args .b .now in let s = st .args .s in let t = st .args .t in let Q = st .args .places .now in let S = st .args .sets .now in
     let R = st .pre .1 in let n = st .args .n in let e : n ≡ suc (n - 1) = omega (arith, c .before .before .before .before .if1 .left) in
     let O = first-pair F a b Q S s t n R (n - 1) e in
-    (O .first-run, O .first-place, short-at a b s (R .kept .first-short) (R .kept .second-short)))  -- unify-terms-after-requires
+    (O .first-run, O .first-place, short-at a b s (R .store .first-short) (R .store .second-short)))  -- unify-terms-after-requires
     (λ c κs. let st = c .before .before .before .before .before .before .before .before .before in let F = st .args .functions .now in
     let a = st .args .a .now in let b = st .args .b .now in let s = st .args .s in let t = st .args .t in let Q = st .args .places .now in
     let S = st .args .sets .now in let R = st .pre .1 in let n = st .args .n in
     let e : n ≡ suc (n - 1) = omega (arith, c .before .before .before .before .before .if1 .left) in let O = first-pair F a b Q S s t n R (n - 1) e in
-    (O .second-run, O .second-place, short-at a b t (R .kept .first-short) (R .kept .second-short)))  -- unify-terms-after-requires-2
+    (O .second-run, O .second-place, short-at a b t (R .store .first-short) (R .store .second-short)))  -- unify-terms-after-requires-2
     (λ c. omega (arith, c .before .before .before .before .before .before .if1 .left))  -- unify-terms-sub-unify-terms
     (λ c κs. let st = c .before .before .before .before .before .before .before .before .before .before .before .before in let F = st .args .functions .now in
     let a = st .args .a .now in let b = st .args .b .now in let s = st .args .s in let t = st .args .t in let Q = st .args .places .now in

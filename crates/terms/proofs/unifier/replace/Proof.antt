@@ -7,7 +7,8 @@ use mathlib.Core.Path.{refl}
 use mathlib.Core.Logic.{⊎-elim}
 use lib.ListN.{getD}
 use lib.Dec.{T}
-use Rattle.terms.proofs.Replacing.{Halfway, bit-within, replaced-with, replaced-without, halfway-more}
+use Rattle.terms.proofs.Replacing.{Halfway, replaced-with, replaced-without, halfway-more}
+use Rattle.terms.proofs.Without.{bit-within}
 use Rattle.terms.proofs.unifier.replace.Statement.{statement}
 use Rattle.terms.proofs.unifier.replace.Tie as tie
 

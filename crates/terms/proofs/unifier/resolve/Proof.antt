@@ -2,7 +2,8 @@
 use Prim.Native.Nat.{_-_}
 use mathlib.Core.Path.{refl}
 use native.Mathlib.Nat.{le-of-lt}
-use Rattle.terms.proofs.Places.{cells-first, cells-second, part-from, run-place, first-run, second-run, run-length}
+use Rattle.terms.proofs.Places.{cells-first, cells-second, run-place, first-run, second-run, run-length}
+use Rattle.terms.proofs.Parts.{part-from}
 use borrow.Author.Needs.{needs}
 use Rattle.terms.proofs.unifier.resolve.Statement.{statement}
 use Rattle.terms.proofs.unifier.resolve.Tie as tie

@@ -1,7 +1,6 @@
 -- `set_at` meets its contract: a variable's cell has its own set, and the cells of another term are walked. Assumes nothing.
-use native.Mathlib.Omega.{arith}
 use borrow.Author.Needs.{needs}
-use Rattle.terms.proofs.Binding.{cells-enc}
+use Rattle.terms.proofs.RunVariables.{cells-enc}
 use Rattle.terms.proofs.Standings.{set-alone, next-term, cell-at}
 use Rattle.terms.proofs.unifier.set_at.Statement.{statement}
 use Rattle.terms.proofs.unifier.set_at.Tie as tie
