@@ -1,10 +1,10 @@
 -- Runs that are terms, a cell at a time: the first cell, and the terms behind it; from these to the run, and back.
-use Prim.Native.Nat.{ℕ, _+_, _-_, _≤_, _<_}
+use Prim.Native.Nat.{ℕ, suc, _+_, _-_, _≤_, _<_}
 use mathlib.Core.Path.{_≡_, refl, sym, ap, ap₂, _∙_}
 use mathlib.Core.Bool.{Bool, true}
 use mathlib.Core.List.{List, [], _∷_, _++_}
 use native.Mathlib.Omega.{arith}
-use lib.ListN.{length, getD}
+use lib.ListN.{length, getD, length-append}
 use Rattle.terms.specs.Term.{Terms, var, app, nil, cons, count, join}
 use Rattle.terms.specs.Cells.{firstVariable, variables, atomCells, enc, encs, Keepss, takeTerms, dropTerms, Run}
 use Rattle.terms.specs.Store.{noPlace, cellsAt}
@@ -70,16 +70,18 @@ module _ (F : List ℕ) where
       go (cons (app f us) ts) e k m = let q : firstVariable ≤ f = rw e at h in absurd (omega (arith, k .0 .1))
 
   pub function-behind : (cells : List ℕ) (n : ℕ) → 0 < n → getD cells 0 0 < firstVariable → TermsRun F cells n
-      → (getD cells 0 0 < length F) × TermsRun F (behind cells) (n - 1 + getD F (getD cells 0 0) 0)
+      → (getD cells 0 0 < length F) × (n + getD F (getD cells 0 0) 0 ≤ length cells) × TermsRun F (behind cells) (n - 1 + getD F (getD cells 0 0) 0)
   function-behind cells n p h r = go (r .terms) (r .is) (r .keeps) (r .many)
     where
       go : (ts : Terms) → cells ≡ encs ts → Keepss F ts → count ts ≡ n
-          → (getD cells 0 0 < length F) × TermsRun F (behind cells) (n - 1 + getD F (getD cells 0 0) 0)
+          → (getD cells 0 0 < length F) × (n + getD F (getD cells 0 0) 0 ≤ length cells) × TermsRun F (behind cells) (n - 1 + getD F (getD cells 0 0) 0)
       go nil e k m = absurd (omega arith)
       go (cons (var v) ts) e k m = let q : firstVariable + v < firstVariable = rw e at h in absurd (omega arith)
       go (cons (app f us) ts) e k m =
+          let room : n + getD F f 0 ≤ suc (length (encs us ++ encs ts)) = rw length-append (omega (arith, cells-many us, cells-many ts, k .0 .2)) in
           rw e (
             k .0 .0,
+            room,
             record {
               terms = join us ts;
               is = behind-cons f (encs us ++ encs ts) ∙ sym (encs-join us ts);

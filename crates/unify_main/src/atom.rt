@@ -1,6 +1,7 @@
 // Which runs of cells are atoms: only these can be unified.
 use terms::walk::FIRST_VARIABLE;
 use terms::walk::wide;
+ghost use mathlib.Core.Logic.{_↔_};
 ghost use lib.Dec.{T};
 ghost use Rattle.unify_main.specs.AtomRun.{TermsRun, AtomRun};
 
@@ -11,7 +12,7 @@ pub const ATOM_CELLS: usize = 32;
 
 // Whether the run is n terms and nothing behind them.
 fn are_terms(run: &[u16], functions: &[u16], n: usize) -> bool
-    ensures { λ r. ⌜ (T r → TermsRun (now (functions .entry)) (now (run .entry)) n) ⌝ }
+    ensures { λ r. ⌜ (T r ↔ TermsRun (now (functions .entry)) (now (run .entry)) n) ⌝ }
 {
     if run.len() < n {
         return false;
@@ -39,7 +40,7 @@ fn are_terms(run: &[u16], functions: &[u16], n: usize) -> bool
 
 // Whether the run is an atom: a predicate and its argument terms.
 pub fn is_atom(run: &[u16], predicates: &[u16], functions: &[u16]) -> bool
-    ensures { λ r. ⌜ (T r → AtomRun (now (predicates .entry)) (now (functions .entry)) (now (run .entry))) ⌝ }
+    ensures { λ r. ⌜ (T r ↔ AtomRun (now (predicates .entry)) (now (functions .entry)) (now (run .entry))) ⌝ }
 {
     if run.len() == 0 {
         return false;

@@ -3,7 +3,7 @@
 use native.Mathlib.Omega.{arith}
 use lib.Dec.{eqb→eq}
 use lib.ListN.{length, length-take, length-drop}
-use Rattle.unify_main.proofs.AtomRuns.{no-terms, variable-first, function-first}
+use Rattle.unify_main.proofs.AtomRuns.{no-terms, variable-first, function-first, terms-many, terms-none, variable-behind, function-behind}
 use borrow.Author.Needs.{needs}
 use Prim.Native.Nat.{ℕ, _<_}
 use borrow.Fn.Kinds.{In}
@@ -34,34 +34,53 @@ pub +are-terms-spec : {M : Type 1} → statement M
 )
     (are-terms-at t)
     are-terms.Post
-    (λ c. λ f. absurd f)  -- are-terms-returns
-    (λ c. λ z.
+    (λ c. (λ f. absurd f, λ r. omega (arith, terms-many (c .before .before .before .args .functions .now) r, c .if1 .taken)))  -- are-terms-returns
+    (λ c.
     let s = c .before .before .before .before in
     let F = s .args .functions .now in
     let R = s .args .run .now in
     let n = s .args .n in
-    no-terms F R n (eqb→eq (length R) 0 z) (c .if2 .taken))  -- are-terms-returns-2
+    (λ z. no-terms F R n (eqb→eq (length R) 0 z) (c .if2 .taken), λ r. rw (terms-none F (c .if2 .taken) r) tt))  -- are-terms-returns-2
     (λ c. search needs)  -- are-terms-shared-slice-read-cell
-    (λ c. λ f. absurd f)  -- are-terms-returns-3
+    (λ c.
+    let s = c .before .before .before .before .before .before .before in
+    let F = s .args .functions .now in
+    let R = s .args .run .now in
+    let n = s .args .n in
+    (λ f. absurd f, λ r. omega (arith, variable-behind F R n (omega arith) (c .before .if3 .taken) r .0, c .if4 .taken)))  -- are-terms-returns-3
     (λ c. search needs)  -- are-terms-sub-are-terms
     (λ c. search needs)  -- are-terms-part-are-terms-start
     (λ c. search needs)  -- are-terms-part-are-terms-end
     (λ c. search needs)  -- are-terms-sub-are-terms-2
     (λ c κs. let s = c .before .before .before .before .before .before .before .before in
     (rw (← s .pre .0, length-take, length-drop) (omega arith), tt))  -- are-terms-are-terms-requires
-    (λ c. λ z.
+    (λ c.
     let s = c .before .before .before .before .before .before .before .before .before in
     let F = s .args .functions .now in
     let R = s .args .run .now in
-    let n = s .args .n in
-    variable-first F R n (omega arith) (omega arith) (c .before .before .before .if3 .taken) (c .before .before .if4 .left) (c .are-terms .ensures z))  -- are-terms-returns-4
+    let n = s .args .n in (
+      λ z. variable-first F R n (omega arith) (omega arith) (c .before .before .before .if3 .taken) (c .before .before .if4 .left) (c .are-terms .ensures .0 z),
+      λ r. c .are-terms .ensures .1 (variable-behind F R n (omega arith) (c .before .before .before .if3 .taken) r .1),
+    ))  -- are-terms-returns-4
     (λ c κs. search needs)  -- are-terms-wide-requires
-    (λ c. λ f. absurd f)  -- are-terms-returns-5
+    (λ c.
+    let s = c .before .before .before .before .before .before .before .before in
+    let F = s .args .functions .now in
+    let R = s .args .run .now in
+    let n = s .args .n in
+    (λ f. absurd f, λ r. omega (arith, function-behind F R n (omega arith) (c .before .before .if3 .left) r .0, c .before .wide .ensures .0, c .if5 .taken)))  -- are-terms-returns-5
     (λ c. search needs)  -- are-terms-mul-wide
     (λ c. search needs)  -- are-terms-shared-slice-read-wide
     (λ c κs. search needs)  -- are-terms-wide-requires-2
     (λ c. search needs)  -- are-terms-sub-if6
-    (λ c. λ f. absurd f)  -- are-terms-returns-6
+    (λ c.
+    let s = c .before .before .before .before .before .before .before .before .before .before .before in
+    let F = s .args .functions .now in
+    let R = s .args .run .now in
+    let n = s .args .n in
+    let e = c .before .before .before .before .wide .ensures .0 in
+    let arity = rw e at (c .before .wide2 .ensures .0) in
+    (λ f. absurd f, λ r. omega (arith, function-behind F R n (omega arith) (c .before .before .before .before .before .if3 .left) r .1, arity, c .if6 .taken)))  -- are-terms-returns-6
     (λ c. search needs)  -- are-terms-sub-are-terms-3
     (λ c. search needs)  -- are-terms-part-are-terms-start-2
     (λ c. search needs)  -- are-terms-part-are-terms-end-2
@@ -69,11 +88,14 @@ pub +are-terms-spec : {M : Type 1} → statement M
     (λ c. search needs)  -- are-terms-add-are-terms
     (λ c κs. let s = c .before .before .before .before .before .before .before .before .before .before .before .before in
     (rw (← s .pre .0, length-take, length-drop) (omega arith), tt))  -- are-terms-are-terms-requires-2
-    (λ c. λ z.
+    (λ c.
     let s = c .before .before .before .before .before .before .before .before .before .before .before .before .before in
     let F = s .args .functions .now in
     let R = s .args .run .now in
     let n = s .args .n in
     let e = c .before .before .before .before .before .before .wide .ensures .0 in
-    function-first F R n (omega arith) (omega arith) (c .before .before .before .before .before .before .before .if3 .left) (rw e at (c .before .before .before .before .before .if5 .left))
-    (rw (c .before .before .before .wide2 .ensures .0, e) at (c .are-terms2 .ensures z)))  -- are-terms-returns-7
+    let function = c .before .before .before .before .before .before .before .if3 .left in (
+      λ z. function-first F R n (omega arith) (omega arith) function (rw e at (c .before .before .before .before .before .if5 .left))
+          (rw (c .before .before .before .wide2 .ensures .0, e) at (c .are-terms2 .ensures .0 z)),
+      λ r. c .are-terms2 .ensures .1 (rw (c .before .before .before .wide2 .ensures .0, e) (function-behind F R n (omega arith) function r .2)),
+    ))  -- are-terms-returns-7

@@ -1,16 +1,15 @@
 -- `is_atom` meets its contract: a predicate's cell, and behind it as many terms as its arity. Assumes nothing.
 use native.Mathlib.Omega.{arith}
-use Rattle.unify_main.proofs.AtomRuns.{predicate-first}
-use borrow.Author.Needs.{needs}
+use Rattle.unify_main.proofs.AtomRuns.{predicate-first, predicate-behind}
 use borrow.Author.Needs.{needs}
 use Rattle.unify_main.proofs.atom.is_atom.Statement.{statement}
 use Rattle.unify_main.proofs.atom.is_atom.Tie as tie
 
 returns : tie.Need-returns
-returns c = λ f. absurd f
+returns c = (λ f. absurd f, λ r. omega (arith, predicate-behind r .0, c .if1 .taken))
 
 returns-2 : tie.Need-returns-2
-returns-2 c = λ f. absurd f
+returns-2 c = (λ f. absurd f, λ r. omega (arith, predicate-behind r .1, c .if2 .taken))
 
 shared-slice-read-wide : tie.Need-shared-slice-read-wide
 shared-slice-read-wide c = search needs
@@ -19,7 +18,7 @@ wide-requires : tie.Need-wide-requires
 wide-requires c κs = search needs
 
 returns-3 : tie.Need-returns-3
-returns-3 c = λ f. absurd f
+returns-3 c = (λ f. absurd f, λ r. omega (arith, predicate-behind r .2, c .before .wide .ensures .0, c .if3 .taken))
 
 sub-are-terms : tie.Need-sub-are-terms
 sub-are-terms c = search needs
@@ -43,12 +42,15 @@ are-terms-requires : tie.Need-are-terms-requires
 are-terms-requires c κs = search needs
 
 returns-4 : tie.Need-returns-4
-returns-4 c z =
+returns-4 c =
     let s = c .before .before .before .before .before .before .before .before .before .before .before .before in
     let e = c .before .before .before .before .before .wide .ensures .0 in
-    predicate-first (s .args .predicates .now) (s .args .functions .now) (s .args .run .now) (omega (arith, c .before .before .before .before .before .before .before .before .if1 .left)) (c .before .before .before .before .before .before .before .if2 .left)
-    (rw e at (c .before .before .before .before .if3 .left))
-    (rw (c .before .wide2 .ensures .0, e) at (c .are-terms .ensures z))
+    let arity = c .before .wide2 .ensures .0 in (
+      λ z. predicate-first (s .args .predicates .now) (s .args .functions .now) (s .args .run .now) (omega (arith, c .before .before .before .before .before .before .before .before .if1 .left)) (c .before .before .before .before .before .before .before .if2 .left)
+          (rw e at (c .before .before .before .before .if3 .left))
+          (rw (arity, e) at (c .are-terms .ensures .0 z)),
+      λ r. c .are-terms .ensures .1 (rw (arity, e) (predicate-behind r .3)),
+    )
 
 pub is-atom-spec : {M : Type 1} → statement M
 is-atom-spec =

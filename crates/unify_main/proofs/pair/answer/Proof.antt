@@ -50,7 +50,7 @@ put-unifier-requires : tie.Need-put-unifier-requires
 put-unifier-requires c κs =
     let u = c .before .before .before .before .before .before .before .is-atom in
     let w = c .before .before .before .is-atom2 in
-    (u .ensures (rw (not-false (u .result) (c .before .before .before .before .before .before .if1 .left)) tt), w .ensures (rw (not-false (w .result) (c .before .before .if2 .left)) tt))
+    (u .ensures .0 (rw (not-false (u .result) (c .before .before .before .before .before .before .if1 .left)) tt), w .ensures .0 (rw (not-false (w .result) (c .before .before .if2 .left)) tt))
 
 returns-3 : tie.Need-returns-3
 returns-3 c = search needs
