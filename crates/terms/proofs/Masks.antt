@@ -8,23 +8,20 @@ use mathlib.Core.Logic.{_↔_, _⊎_, inl, inr, ⊎-map}
 use lib.Arith.{half-le}
 use lib.Bits.{bitAnd, bitOr, and-step, or-step, and-shr, or-shr}
 use lib.Pow.{pow-mono}
-use Rattle.terms.specs.Mask.{any, ground, neither, markOf, Has, Marks}
+use Rattle.terms.specs.Mask.{any, ground, markOf, Has, Marks}
 
 -- whether a mask marks a variable
 unfoldable pub has-decided : (m v : ℕ) → Dec (Has m v)
 unfolding ℕ-discrete
 has-decided m v = ℕ-discrete (m / 2 ^ v % 2) 1
 
--- a mask's mark is any or ground, so that a mask gives no reply 10
+-- a mask's mark is any or ground
 pub mark-any-or-ground : (m v : ℕ) → (markOf m v ≡ any) ⊎ (markOf m v ≡ ground)
 mark-any-or-ground m v = at (ℕ-discrete (markOf m v) ground)
   where
     at : Dec (markOf m v ≡ ground) → (markOf m v ≡ any) ⊎ (markOf m v ≡ ground)
     at (yes h) = inr h
     at (no n) = inl (omega arith)
-
-pub mark-never-neither : (m v : ℕ) → markOf m v ≡ neither → ⊥
-mark-never-neither m v e = omega arith
 
 -- the bit of a later variable is that of the halved mask
 pub halved : (m v : ℕ) → m / 2 / 2 ^ v ≡ m / 2 ^ suc v

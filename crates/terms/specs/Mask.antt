@@ -3,15 +3,12 @@ use Prim.Native.Nat.{ℕ, _/_, _%_, _^_}
 use mathlib.Core.Path.{_≡_}
 use mathlib.Core.Logic.{_↔_}
 
--- the numbers of a mark: "0 any, 1 ground", and a third for "a mark comes out neither any nor ground"
+-- the numbers of a mark: "0 any, 1 ground"
 abbrev pub any : ℕ
 any = 0
 
 abbrev pub ground : ℕ
 ground = 1
-
-abbrev pub neither : ℕ
-neither = 2
 
 -- the mark that a mask has for variable v
 abbrev pub markOf : ℕ → ℕ → ℕ
