@@ -15,11 +15,13 @@ use terms::walk::wide;
 ghost use Prim.Native.Nat.{_<_};
 ghost use mathlib.Core.Path.{_≡_};
 ghost use lib.ListN.{length};
+ghost use Rattle.program.specs.Limits.{maxShapes};
+ghost use Rattle.directory.specs.Layout.{dirWords};
 ghost use Rattle.program.specs.Program.{Program};
 ghost use Rattle.program.specs.Faults.{faults, sound};
 
 fn shape(dir: &[u16], s: usize)
-    requires { ⌜ (length (now dir) ≡ 9550) × (s < 1025) ⌝ }
+    requires { ⌜ (length (now dir) ≡ dirWords) × (s < maxShapes) ⌝ }
 {
     let from = least(wide(dir[SHAPE_START + s]), 2048);
     let to = least(wide(dir[SHAPE_START + s + 1]), 2048);

@@ -5,9 +5,15 @@ use cases::least;
 use cases::next;
 use cases::print;
 use cases::print_words;
+use rows::row::MAX_ROWS;
+use rows::row::ROW_SIZE;
 use terms::walk::wide;
 ghost use Prim.Native.Nat.{_≤_};
 
+// A table of the most rows.
+const TABLE_WORDS: usize = ROW_SIZE * MAX_ROWS;
+
+// One where the word is not 0.
 fn other(word: u16) -> usize
     ensures { λ r. ⌜ r ≤ 1 ⌝ }
 {
@@ -34,7 +40,7 @@ fn reply(words: &[u16], table: &mut [u16]) {
     print(r.number as usize, b" ");
     print(r.place, b" ");
     print(r.count, b" ");
-    let end = 5 * least(r.count, table.len() / 5);
+    let end = ROW_SIZE * least(r.count, table.len() / ROW_SIZE);
     print_words(&table[..end]);
     print(others(&table[end..]), b"\n");
 }
@@ -50,7 +56,7 @@ fn case(line: &[u16], table: &mut [u16]) {
 fn main() {
     // the length of the table, and one word more than a program may have, so that a longer line is too long
     let mut words = [0u16; 2050];
-    let mut table = [0u16; 20480];
+    let mut table = [0u16; TABLE_WORDS];
     let mut buffer = io::buffer();
     let mut input = cases::start();
     let mut turns = u64::MAX;

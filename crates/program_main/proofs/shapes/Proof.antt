@@ -4,11 +4,13 @@ use Prim.Native.Nat.{_≤_, _-_}
 use mathlib.Core.Path.{_≡_}
 use borrow.Author.Needs.{needs}
 use lib.ListN.{length}
+use Rattle.program.specs.Limits.{maxShapes}
+use Rattle.directory.specs.Layout.{dirWords}
 use Rattle.program_main.proofs.shapes.Statement.{statement}
 use Rattle.program_main.proofs.shapes.Tie as tie
 
 abbrev Inv-loop : tie.InvT-loop
-Inv-loop words dir count s₀ s = (length dir ≡ 9550) × (count ≤ 1025) × (s ≤ count)
+Inv-loop words dir count s₀ s = (length dir ≡ dirWords) × (count ≤ maxShapes) × (s ≤ count)
 
 abbrev μ-loop : tie.MeasureT-loop
 μ-loop words dir count s₀ s = count - s
