@@ -1,4 +1,4 @@
--- What the lists in the room say is what the text so far and the line say: a look at a token comes to the same.
+-- What the lists in the room say is what the declared symbols and the line say: a look at a token comes to the same.
 use Prim.Native.Nat.{ℕ, zero, suc, _+_, _-_, _*_, _≤_, _<_}
 use mathlib.Core.Path.{_≡_, refl, sym, ap, _∙_}
 use mathlib.Core.Bool.{Bool, true, false, cond}
@@ -13,17 +13,17 @@ use Rattle.terms.specs.Cells.{variables, atomCells}
 use Rattle.program.specs.Limits.{maxBody, maxVariable}
 use Rattle.program.specs.Reply.{undeclared, outOfRange, longAtom}
 use Rattle.text.specs.Room.{inRoom}
-use Rattle.text.specs.Name.{nameBytes, maxNames, entry, padded, same, seek, Hashed}
+use Rattle.text.specs.Name.{nameBytes, maxNames, entry, padded, same, seek}
 use Rattle.text.specs.Token.{tokenOf}
 use Rattle.text.specs.declared.token.Token.{Token}
 use Rattle.text.specs.declared.token.Token.the-variants.{Wrong, Name, Variable}
 use Rattle.text.proofs.Rooms.{drop-inRoom, take-inRoom, getD-inRoom, set-behind}
 use Rattle.cells.specs.declared.look.Look.{Look}
-use Rattle.cells.specs.declared.look.Look.the-variants.{Fault, Symbol, Variable as Met}
+use Rattle.cells.specs.declared.look.Look.the-variants.{Fault, Symbol}
 use Rattle.cells.specs.declared.state.Counts.{Counts}
 use Rattle.cells.specs.declared.state.Progress.{Progress}
 use Rattle.cells.specs.Cells.{symbolAt, namedOf, variableAt, startOf, argumentOf, lookOf}
-use Rattle.cells.specs.Room.{SymbolsHeld, Roomy, textSoFar, rowOf}
+use Rattle.cells.specs.Room.{SymbolsHeld, Roomy, symbolsIn, rowOf}
 
 -- a name that is there stands in the room as it was put
 pub entry-kept : (room : ℕ) (ns : List ℕ) (k : ℕ) → k * nameBytes + nameBytes ≤ length ns → length ns ≤ room → entry (inRoom room ns) k ≡ entry ns k
@@ -57,7 +57,7 @@ namedOf-alike a a′ b b′ from to s h names arities =
     ap (symbolAt b from to) (seek-alike a a′ (padded s) from (to - from) (λ k h₁ h₂. names k (omega arith)))
     ∙ symbolAt-alike b b′ from to (seek a′ (padded s) from (to - from)) arities
 
--- a look at a token through the room is a look at it through the text so far and the line
+-- a look at a token through the room is a look at it through the declared symbols and the line
 module _ (ns ws : List ℕ) (c : Counts) (names hashes arities : List ℕ) (room : Roomy c names hashes arities)
     (kept : SymbolsHeld ns ws c names hashes arities) where
   pub entries : (k : ℕ) → k < c .predicates + c .functions → entry names k ≡ entry ns k
@@ -66,12 +66,12 @@ module _ (ns ws : List ℕ) (c : Counts) (names hashes arities : List ℕ) (room
       ∙ entry-kept (maxNames * nameBytes) ns k (omega (arith, kept .sized)) (omega (arith, kept .sized, room .few-predicates, room .few-functions))
 
   pub lookOf-kept : (query : Bool) (p : Progress) (ms out s : List ℕ)
-      → lookOf (textSoFar c names arities) query (rowOf p (inRoom variables ms) []) s ≡ lookOf (textSoFar c ns ws) query (rowOf p ms out) s
+      → lookOf (symbolsIn c names arities) query (rowOf p (inRoom variables ms) []) s ≡ lookOf (symbolsIn c ns ws) query (rowOf p ms out) s
   lookOf-kept query p ms out s = go (eqb (p .wanted) 0) (tokenOf query s)
     where
       go : (t : Bool) (k : Token)
-          → cond t (startOf (textSoFar c names arities) (p .atoms) s k) (argumentOf (textSoFar c names arities) (rowOf p (inRoom variables ms) []) s k)
-          ≡ cond t (startOf (textSoFar c ns ws) (p .atoms) s k) (argumentOf (textSoFar c ns ws) (rowOf p ms out) s k)
+          → cond t (startOf (symbolsIn c names arities) (p .atoms) s k) (argumentOf (symbolsIn c names arities) (rowOf p (inRoom variables ms) []) s k)
+          ≡ cond t (startOf (symbolsIn c ns ws) (p .atoms) s k) (argumentOf (symbolsIn c ns ws) (rowOf p ms out) s k)
       go true Wrong = refl
       go true Name =
           ap (cond (ltb maxBody (p .atoms)) (Fault outOfRange))
@@ -85,8 +85,8 @@ module _ (ns ws : List ℕ) (c : Counts) (names hashes arities : List ℕ) (room
 
   -- the same, where the line stands in the room
   pub lookOf-stands : (query : Bool) (p : Progress) (ms out modes s : List ℕ) (l : Look) → modes ≡ inRoom variables ms
-      → l ≡ lookOf (textSoFar c names arities) query (rowOf p modes []) s → lookOf (textSoFar c ns ws) query (rowOf p ms out) s ≡ l
-  lookOf-stands query p ms out modes s l e f = sym (f ∙ ap (λ (m : List ℕ). lookOf (textSoFar c names arities) query (rowOf p m []) s) e ∙ lookOf-kept query p ms out s)
+      → l ≡ lookOf (symbolsIn c names arities) query (rowOf p modes []) s → lookOf (symbolsIn c ns ws) query (rowOf p ms out) s ≡ l
+  lookOf-stands query p ms out modes s l e f = sym (f ∙ ap (λ (m : List ℕ). lookOf (symbolsIn c names arities) query (rowOf p m []) s) e ∙ lookOf-kept query p ms out s)
 
 -- one more byte of a list behind another list
 pub byte-behind : (room : ℕ) (ns key names : List ℕ) (at i : ℕ) → i < length key → at ≡ length ns → names ≡ inRoom room (ns ++ take i key)

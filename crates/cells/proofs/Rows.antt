@@ -1,29 +1,28 @@
 -- The cells of a line, token by token: one turn of the loop, and the ends of it.
-use Prim.Native.Nat.{ℕ, zero, suc, _+_, _-_, _≤_, _<_}
+use Prim.Native.Nat.{ℕ, _+_, _-_, _≤_, _<_}
 use mathlib.Core.Path.{_≡_, refl, sym, ap, _∙_}
 use mathlib.Core.Bool.{Bool, true, false, cond, _&&_}
-use mathlib.Core.List.{List, [], _∷_, _++_, append-nil}
+use mathlib.Core.List.{List, [], append-nil}
 use native.Mathlib.Omega.{arith}
-use native.Mathlib.Numerals.{add-one}
-use lib.ListN.{length, take, drop, length-take, length-drop}
+use lib.ListN.{length, drop}
 use lib.Dec.{eqb, ltb}
-use borrow.Author.Tests.{lt-ltb, le-ltb, ltb-true}
+use borrow.Author.Tests.{le-ltb, ltb-true}
 use Rattle.terms.specs.Cells.{variables}
 use Rattle.program.specs.Limits.{maxWords}
 use Rattle.program.specs.Reply.{tooSoon, follows}
 use Rattle.program.specs.Lists.{between}
 use Rattle.text.specs.Room.{inRoom}
-use Rattle.text.specs.Line.{upTo, parts, behind, tab}
+use Rattle.text.specs.Line.{upTo, behind, tab}
 use Rattle.cells.proofs.FieldCuts.{field-within, field-length, behind-next}
 use Rattle.cells.specs.declared.look.Look.{Look}
 use Rattle.cells.specs.declared.look.Look.the-variants.{Fault, Symbol, Variable as Met}
 use Rattle.cells.specs.declared.state.Progress.{Progress}
-use Rattle.cells.specs.declared.cells.Taken.{Taken}
 use Rattle.cells.specs.declared.cells.Taken.the-variants.{Fault as TakenFault, Next}
-use Rattle.cells.specs.TextSoFar.{TextSoFar, Read, wrong, right, next}
+use Rattle.cells.specs.Symbols.{Symbols}
+use Rattle.cells.specs.TextSoFar.{Read, wrong, right, next}
 use Rattle.cells.specs.declared.state.Counts.{Counts}
 use Rattle.cells.specs.Cells.{Row, noCells, lookOf, takenAt, withSymbol, withVariable, complete, cellsOf}
-use Rattle.cells.specs.Room.{Stands, Small, SymbolsHeld, TakenAs, CellsAs, textSoFar, rowOf}
+use Rattle.cells.specs.Room.{Stands, Small, SymbolsHeld, TakenAs, CellsAs, symbolsIn, rowOf}
 use Rattle.cells.specs.declared.cells.Cells.the-variants.{Fault as CellsFault, Done}
 
 -- a line that goes on, as it stands in the room
@@ -58,7 +57,7 @@ module _ (front modes words : List ℕ) where
   taken-next r (Met v g) q e = goes-on r (withVariable r v g) (Met v g) q (λ place. refl) e
 
 -- one turn: the separator stands at `at`, and the token behind it ends at e
-module _ (t : TextSoFar) (query : Bool) (line : List ℕ) (base at e : ℕ) (h : at < length line)
+module _ (t : Symbols) (query : Bool) (line : List ℕ) (base at e : ℕ) (h : at < length line)
     (ends : e ≡ at + 1 + length (upTo tab (drop (at + 1) line))) where
   abbrev token : List ℕ
   token = between line (at + 1) e
@@ -90,19 +89,19 @@ module _ (t : TextSoFar) (query : Bool) (line : List ℕ) (base at e : ℕ) (h :
       turn r ∙ rw (o, g .on (base + at + 1), place)
 
 -- the end of the line
-pub rest-none : (t : TextSoFar) (query : Bool) (line : List ℕ) (base at : ℕ) (r : Row) → length line ≤ at
+pub rest-none : (t : Symbols) (query : Bool) (line : List ℕ) (base at : ℕ) (r : Row) → length line ≤ at
     → cellsOf t query r (base + at) (behind tab line at) ≡ cond (complete r) (right r) (wrong tooSoon (base + at))
 rest-none t query line base at r h = rw (le-ltb at (length line) h)
 
 -- the line read so far, and what is left of it
-pub record Said (t : TextSoFar) (query : Bool) (line : List ℕ) (from base : ℕ) (front words modes : List ℕ) (p : Progress) (at : ℕ) : Type 0 where
+pub record Said (t : Symbols) (query : Bool) (line : List ℕ) (from base : ℕ) (front words modes : List ℕ) (p : Progress) (at : ℕ) : Type 0 where
   pub ms : List ℕ
   pub out : List ℕ
   pub stands : Stands p ms out front modes words
   pub rest : cellsOf t query noCells (base + from) (behind tab line from) ≡ cellsOf t query (rowOf p ms out) (base + at) (behind tab line at)
 
 -- one token more, the one that ends at e
-pub said-on : (t : TextSoFar) (query : Bool) (line : List ℕ) {from : ℕ} (base : ℕ) (front words modes : List ℕ) {words₀ modes₀ : List ℕ} {p : Progress} (q : Progress)
+pub said-on : (t : Symbols) (query : Bool) (line : List ℕ) {from : ℕ} (base : ℕ) (front words modes : List ℕ) {words₀ modes₀ : List ℕ} {p : Progress} (q : Progress)
     (at e : ℕ) → at < length line → e ≡ at + 1 + length (upTo tab (drop (at + 1) line))
     → (s : Said t query line from base front words₀ modes₀ p at) → query && complete (rowOf p (s .ms) (s .out)) ≡ false
     → TakenAs front modes words (Next q) (takenAt (rowOf p (s .ms) (s .out)) 0 (lookOf t query (rowOf p (s .ms) (s .out)) (between line (at + 1) e)))
@@ -122,10 +121,10 @@ pub record Turning (line : List ℕ) (from base : ℕ) (query : Bool) (c : Count
   pub word-length : length words ≡ length words₀
   pub mode-length : length modes ≡ length modes₀
   pub says : (ns ws front : List ℕ) → SymbolsHeld ns ws c names hashes arities → words₀ ≡ inRoom maxWords front → count ≡ length front
-      → modes₀ ≡ inRoom variables [] → Said (textSoFar c ns ws) query line from base front words modes p at
+      → modes₀ ≡ inRoom variables [] → Said (symbolsIn c ns ws) query line from base front words modes p at
 
 -- before the first token
-pub begins : (t : TextSoFar) (query : Bool) (line : List ℕ) (from base : ℕ) (front words modes : List ℕ) (count : ℕ)
+pub begins : (t : Symbols) (query : Bool) (line : List ℕ) (from base : ℕ) (front words modes : List ℕ) (count : ℕ)
     → words ≡ inRoom maxWords front → count ≡ length front → modes ≡ inRoom variables []
     → Said t query line from base front words modes (record { wanted = 0; cells = 0; atoms = 0; variables = 0; words = count }) from
 begins t query line from base front words modes count w n m =

@@ -1,12 +1,12 @@
 -- One token taken: the line that stands in the room is the line with the token's cell.
-use Prim.Native.Nat.{ℕ, zero, suc, _+_, _-_, _*_, _≤_, _<_}
+use Prim.Native.Nat.{ℕ, _+_, _-_, _≤_}
 use mathlib.Core.Path.{_≡_, refl, sym, ap, _∙_}
 use mathlib.Core.Bool.{Bool, true, false, cond}
 use mathlib.Core.List.{List, [], _∷_, _++_, append-assoc}
 use native.Mathlib.Omega.{arith}
 use lib.ListN.{length, getD, set, length-append}
 use lib.Dec.{eqb, ltb, leb}
-use borrow.Author.Tests.{ltb-true, ltb-false, leb-true, leb-false}
+use borrow.Author.Tests.{ltb-false}
 use Rattle.terms.specs.Cells.{variables, atomCells, firstVariable}
 use Rattle.program.specs.Limits.{maxBody, maxVariable, maxWords}
 use Rattle.program.specs.Reply.{undeclared, outOfRange, longAtom, badVariable, bothModes}
@@ -18,7 +18,8 @@ use Rattle.text.proofs.Rooms.{set-behind}
 use Rattle.cells.specs.declared.look.Look.{Look}
 use Rattle.cells.specs.declared.look.Look.the-variants.{Fault, Symbol, Variable as Met}
 use Rattle.cells.specs.declared.state.Progress.{Progress}
-use Rattle.cells.specs.TextSoFar.{TextSoFar, Read}
+use Rattle.cells.specs.Symbols.{Symbols}
+use Rattle.cells.specs.TextSoFar.{Read}
 use Rattle.cells.specs.Cells.{Row, modeOf, symbolAt, namedOf, variableAt, startOf, argumentOf, lookOf, takenAt}
 use Rattle.cells.specs.Room.{Stands, TakenAs, rowOf, afterSymbol, afterVariable}
 use Rattle.cells.specs.declared.cells.Taken.the-variants.{Fault as TakenFault, Next}
@@ -48,12 +49,12 @@ variableAt-well r v g = go (ltb maxVariable v) refl (ltb (r .variables) v) refl 
     go false e false f false x = (ltb-false maxVariable v e, ltb-false (r .variables) v f)
 
 -- a symbol that starts an atom is none of a 18th; a variable is one of those met, or the next
-pub look-well : (t : TextSoFar) (query : Bool) (r : Row) (s : List ℕ) → LookWell r (lookOf t query r s)
+pub look-well : (t : Symbols) (query : Bool) (r : Row) (s : List ℕ) → LookWell r (lookOf t query r s)
 look-well t query r s = go (eqb (r .wanted) 0) refl (tokenOf query s)
   where
-    start : (u : Bool) → ltb maxBody (r .atoms) ≡ u → LookWell r (cond u (Fault outOfRange) (namedOf (t .names) (t .words) 0 (t .predicates) s))
+    start : (u : Bool) → ltb maxBody (r .atoms) ≡ u → LookWell r (cond u (Fault outOfRange) (namedOf (t .names) (t .arities) 0 (t .predicates) s))
     start true e = tt
-    start false e = symbolAt-well r (t .words) 0 (t .predicates) _ (ltb-false maxBody (r .atoms) e)
+    start false e = symbolAt-well r (t .arities) 0 (t .predicates) _ (ltb-false maxBody (r .atoms) e)
 
     argument : eqb (r .wanted) 0 ≡ false → (arities : List ℕ) (from to n : ℕ) → LookWell r (symbolAt arities from to n)
     argument e arities from to n = go (ltb n to)
@@ -73,9 +74,9 @@ look-well t query r s = go (eqb (r .wanted) 0) refl (tokenOf query s)
     go false e Wrong = tt
     go false e Name = cells (leb atomCells (r .cells))
       where
-        cells : (u : Bool) → LookWell r (cond u (Fault longAtom) (namedOf (t .names) (t .words) (t .predicates) (t .predicates + t .functions) s))
+        cells : (u : Bool) → LookWell r (cond u (Fault longAtom) (namedOf (t .names) (t .arities) (t .predicates) (t .predicates + t .functions) s))
         cells true = tt
-        cells false = argument e (t .words) (t .predicates) (t .predicates + t .functions) _
+        cells false = argument e (t .arities) (t .predicates) (t .predicates + t .functions) _
     go false e (Variable g v) = cells (leb atomCells (r .cells))
       where
         cells : (u : Bool) → LookWell r (cond u (Fault longAtom) (variableAt (r .variables) (r .modes) v g))
@@ -134,7 +135,7 @@ module _ {p : Progress} {ms out front modes words : List ℕ} (st : Stands p ms 
       within false e = omega (arith, ltb-false v (p .variables) e)
 
 -- the answer for a token, by what was seen of it
-module _ (t : TextSoFar) (query : Bool) (s : List ℕ) {p : Progress} {ms out front modes words : List ℕ} (st : Stands p ms out front modes words) where
+module _ (t : Symbols) (query : Bool) (s : List ℕ) {p : Progress} {ms out front modes words : List ℕ} (st : Stands p ms out front modes words) where
   abbrev its : Read Row
   its = takenAt (rowOf p ms out) 0 (lookOf t query (rowOf p ms out) s)
 

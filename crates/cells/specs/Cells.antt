@@ -13,7 +13,8 @@ use Rattle.text.specs.declared.token.Token.{Token}
 use Rattle.text.specs.declared.token.Token.the-variants.{Wrong, Name, Variable}
 use Rattle.cells.specs.declared.look.Look.{Look}
 use Rattle.cells.specs.declared.look.Look.the-variants.{Fault, Symbol, Variable as Met}
-use Rattle.cells.specs.TextSoFar.{Read, wrong, right, next, TextSoFar}
+use Rattle.cells.specs.Symbols.{Symbols}
+use Rattle.cells.specs.TextSoFar.{Read, wrong, right, next}
 
 -- a line as far as it was read
 pub record Row : Type 0 where
@@ -52,23 +53,23 @@ variableAt seen modes v ground =
     (Met v ground)))
 
 -- the first cell of an atom: a head and 16 body atoms at most; "an atom starts with no predicate"
-abbrev pub startOf : TextSoFar → ℕ → List ℕ → Token → Look
-startOf t atoms s Wrong = Fault illFormed
-startOf t atoms s Name =
-    cond (ltb maxBody atoms) (Fault outOfRange) (namedOf (t .names) (t .words) 0 (t .predicates) s)
-startOf t atoms s (Variable ground v) = cond (ltb maxBody atoms) (Fault outOfRange) (Fault undeclared)
+abbrev pub startOf : Symbols → ℕ → List ℕ → Token → Look
+startOf symbols atoms s Wrong = Fault illFormed
+startOf symbols atoms s Name =
+    cond (ltb maxBody atoms) (Fault outOfRange) (namedOf (symbols .names) (symbols .arities) 0 (symbols .predicates) s)
+startOf symbols atoms s (Variable ground v) = cond (ltb maxBody atoms) (Fault outOfRange) (Fault undeclared)
 
 -- a cell of an argument; "an atom reaches a 33rd cell"
-abbrev pub argumentOf : TextSoFar → Row → List ℕ → Token → Look
-argumentOf t r s Wrong = Fault illFormed
-argumentOf t r s Name =
+abbrev pub argumentOf : Symbols → Row → List ℕ → Token → Look
+argumentOf symbols r s Wrong = Fault illFormed
+argumentOf symbols r s Name =
     cond (leb atomCells (r .cells)) (Fault longAtom)
-    (namedOf (t .names) (t .words) (t .predicates) (t .predicates + t .functions) s)
-argumentOf t r s (Variable ground v) = cond (leb atomCells (r .cells)) (Fault longAtom) (variableAt (r .variables) (r .modes) v ground)
+    (namedOf (symbols .names) (symbols .arities) (symbols .predicates) (symbols .predicates + symbols .functions) s)
+argumentOf symbols r s (Variable ground v) = cond (leb atomCells (r .cells)) (Fault longAtom) (variableAt (r .variables) (r .modes) v ground)
 
 -- "At one place the order is 1, 11, 2, 5, 3, 4, 13."
-abbrev pub lookOf : TextSoFar → Bool → Row → List ℕ → Look
-lookOf t query r s = cond (eqb (r .wanted) 0) (startOf t (r .atoms) s (tokenOf query s)) (argumentOf t r s (tokenOf query s))
+abbrev pub lookOf : Symbols → Bool → Row → List ℕ → Look
+lookOf symbols query r s = cond (eqb (r .wanted) 0) (startOf symbols (r .atoms) s (tokenOf query s)) (argumentOf symbols r s (tokenOf query s))
 
 -- the row with a symbol's cell
 abbrev pub withSymbol : Row → ℕ → ℕ → Row
@@ -105,8 +106,8 @@ complete r = eqb (r .wanted) 0 && ltb 0 (r .atoms)
 
 -- The tokens behind the separator at `at`, a tab or the LF. "a text line's atom ends too soon: the LF";
 -- "After the goal's last cell stands one LF; any other byte there, a tab too, gives 7."
-abbrev pub cellsOf : TextSoFar → Bool → Row → ℕ → List (List ℕ) → Read Row
-cellsOf t query r at [] = cond (complete r) (right r) (wrong tooSoon at)
-cellsOf t query r at (s ∷ ss) =
+abbrev pub cellsOf : Symbols → Bool → Row → ℕ → List (List ℕ) → Read Row
+cellsOf symbols query r at [] = cond (complete r) (right r) (wrong tooSoon at)
+cellsOf symbols query r at (s ∷ ss) =
     cond (query && complete r) (wrong follows at)
-    (next (takenAt r (at + 1) (lookOf t query r s)) (λ r′. cellsOf t query r′ (at + 1 + length s) ss))
+    (next (takenAt r (at + 1) (lookOf symbols query r s)) (λ r′. cellsOf symbols query r′ (at + 1 + length s) ss))

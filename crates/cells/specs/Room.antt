@@ -1,4 +1,4 @@
--- What the code's numbers and the lists in its room say together: the text so far, a line, and when a step of the code is right.
+-- What the code's numbers and the lists in its room say together: the declared symbols, a line, and when a step of the code is right.
 use Prim.Native.Nat.{ℕ, _+_, _-_, _*_, _≤_, _<_}
 use mathlib.Core.Path.{_≡_}
 use mathlib.Core.Bool.{cond}
@@ -9,7 +9,8 @@ use Rattle.terms.specs.Cells.{variables}
 use Rattle.program.specs.Limits.{maxDeclared, maxWords, maxBody}
 use Rattle.text.specs.Name.{nameBytes, maxNames, Hashed}
 use Rattle.text.specs.Room.{inRoom}
-use Rattle.cells.specs.TextSoFar.{TextSoFar, Read, wrong, right}
+use Rattle.cells.specs.Symbols.{Symbols}
+use Rattle.cells.specs.TextSoFar.{Read, wrong, right}
 use Rattle.cells.specs.Cells.{Row}
 use Rattle.cells.specs.declared.state.Counts.{Counts}
 use Rattle.cells.specs.declared.state.Progress.{Progress}
@@ -18,9 +19,8 @@ use Rattle.cells.specs.declared.cells.Taken.the-variants.{Fault as Taken
 use Rattle.cells.specs.declared.cells.Cells.{Cells}
 use Rattle.cells.specs.declared.cells.Cells.the-variants.{Fault as CellsFault, Done}
 
-abbrev pub textSoFar : Counts → List ℕ → List ℕ → TextSoFar
-textSoFar c names words =
-    record { predicates = c .predicates; functions = c .functions; clauses = c .clauses; names = names; words = words }
+abbrev pub symbolsIn : Counts → List ℕ → List ℕ → Symbols
+symbolsIn c names arities = record { predicates = c .predicates; functions = c .functions; names = names; arities = arities }
 
 abbrev pub rowOf : Progress → List ℕ → List ℕ → Row
 rowOf p modes out =

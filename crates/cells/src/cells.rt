@@ -13,7 +13,7 @@ use text::cut::find;
 ghost use mathlib.Core.Path.{_≡_};
 ghost use mathlib.Core.Bool.{cond, _&&_};
 ghost use mathlib.Core.List.{List, []};
-ghost use Prim.Native.Nat.{ℕ, _+_, _-_, _*_, _^_, _≤_, _<_};
+ghost use Prim.Native.Nat.{ℕ, _+_, _-_, _^_, _≤_, _<_};
 ghost use lib.ListN.{length, set};
 ghost use lib.Dec.{ltb};
 ghost use Rattle.terms.specs.Cells.{firstVariable, variables};
@@ -21,7 +21,7 @@ ghost use Rattle.program.specs.Limits.{maxWords, maxVariable};
 ghost use Rattle.text.specs.Line.{behind, tab};
 ghost use Rattle.text.specs.Room.{inRoom};
 ghost use Rattle.cells.specs.Cells.{modeOf, lookOf, takenAt, noCells, cellsOf, complete};
-ghost use Rattle.cells.specs.Room.{Roomy, SymbolsHeld, Small, Grows, Grown, Stands, TakenAs, CellsAs, textSoFar, rowOf, afterSymbol, afterVariable};
+ghost use Rattle.cells.specs.Room.{Roomy, SymbolsHeld, Small, Grows, Grown, Stands, TakenAs, CellsAs, symbolsIn, rowOf, afterSymbol, afterVariable};
 
 pub enum Taken {
     Fault(u16),
@@ -130,7 +130,7 @@ fn take(
     modes: &mut [u16],
 ) -> Taken
     requires { ⌜ Roomy c (now names) (now hashes) (now arities) × (length (now modes) ≡ variables) × Small p × (p .words < 2 ^ 32) ⌝ }
-    ensures { λ r. ⌜ ((ns ws ms out front : List ℕ) → SymbolsHeld ns ws c (now (names .entry)) (now (hashes .entry)) (now (arities .entry)) → Stands p ms out front (now (modes .entry)) (now (words .entry)) → TakenAs front (now (modes .exit)) (now (words .exit)) r (takenAt (rowOf p ms out) 0 (lookOf (textSoFar c ns ws) query (rowOf p ms out) (now (s .entry))))) ⌝ }
+    ensures { λ r. ⌜ ((ns ws ms out front : List ℕ) → SymbolsHeld ns ws c (now (names .entry)) (now (hashes .entry)) (now (arities .entry)) → Stands p ms out front (now (modes .entry)) (now (words .entry)) → TakenAs front (now (modes .exit)) (now (words .exit)) r (takenAt (rowOf p ms out) 0 (lookOf (symbolsIn c ns ws) query (rowOf p ms out) (now (s .entry))))) ⌝ }
     ensures grows { λ r. ⌜ Grows p r ⌝ }
 {
     match look_at(s, query, p, c, names, hashes, arities, modes) {
@@ -182,7 +182,7 @@ pub fn read_cells(
     count: usize,
 ) -> Cells
     requires { ⌜ Roomy c (now names) (now hashes) (now arities) × (length (now modes) ≡ variables) × (from ≤ length (now line)) × (base + length (now line) < 2 ^ 31) × (count < 2 ^ 31) ⌝ }
-    ensures { λ r. ⌜ ((ns ws front : List ℕ) → SymbolsHeld ns ws c (now (names .entry)) (now (hashes .entry)) (now (arities .entry)) → now (words .entry) ≡ inRoom maxWords front → count ≡ length front → now (modes .entry) ≡ inRoom variables [] → CellsAs front (now (modes .exit)) (now (words .exit)) r (cellsOf (textSoFar c ns ws) query noCells (base + from) (behind tab (now (line .entry)) from))) ⌝ }
+    ensures { λ r. ⌜ ((ns ws front : List ℕ) → SymbolsHeld ns ws c (now (names .entry)) (now (hashes .entry)) (now (arities .entry)) → now (words .entry) ≡ inRoom maxWords front → count ≡ length front → now (modes .entry) ≡ inRoom variables [] → CellsAs front (now (modes .exit)) (now (words .exit)) r (cellsOf (symbolsIn c ns ws) query noCells (base + from) (behind tab (now (line .entry)) from))) ⌝ }
     ensures grows { λ r. ⌜ Grown (count + length (now (line .entry))) r ⌝ }
 {
     let mut p = Progress {

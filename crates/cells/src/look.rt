@@ -20,7 +20,7 @@ ghost use lib.ListN.{length};
 ghost use mathlib.Core.List.{[]};
 ghost use Rattle.text.specs.Name.{Hashed, maxNames, nameBytes};
 ghost use Rattle.cells.specs.Cells.{modeOf, symbolAt, variableAt, namedOf, startOf, argumentOf, lookOf};
-ghost use Rattle.cells.specs.Room.{Roomy, textSoFar, rowOf};
+ghost use Rattle.cells.specs.Room.{Roomy, symbolsIn, rowOf};
 
 pub enum Look {
     // the fault's number
@@ -92,7 +92,7 @@ fn start_of(
     arities: &[u16],
 ) -> Look
     requires { ⌜ Roomy c (now names) (now hashes) (now arities) ⌝ }
-    ensures { λ r. ⌜ (Hashed (now (names .entry)) (now (hashes .entry)) 0 (c .predicates + c .functions) → r ≡ startOf (textSoFar c (now (names .entry)) (now (arities .entry))) (p .atoms) (now (s .entry)) token) ⌝ }
+    ensures { λ r. ⌜ (Hashed (now (names .entry)) (now (hashes .entry)) 0 (c .predicates + c .functions) → r ≡ startOf (symbolsIn c (now (names .entry)) (now (arities .entry))) (p .atoms) (now (s .entry)) token) ⌝ }
 {
     match token {
         Token::Wrong => Look::Fault(ILL_FORMED),
@@ -126,7 +126,7 @@ fn argument_of(
     modes: &[u16],
 ) -> Look
     requires { ⌜ Roomy c (now names) (now hashes) (now arities) × (15 < length (now modes)) ⌝ }
-    ensures { λ r. ⌜ (Hashed (now (names .entry)) (now (hashes .entry)) 0 (c .predicates + c .functions) → r ≡ argumentOf (textSoFar c (now (names .entry)) (now (arities .entry))) (rowOf p (now (modes .entry)) []) (now (s .entry)) token) ⌝ }
+    ensures { λ r. ⌜ (Hashed (now (names .entry)) (now (hashes .entry)) 0 (c .predicates + c .functions) → r ≡ argumentOf (symbolsIn c (now (names .entry)) (now (arities .entry))) (rowOf p (now (modes .entry)) []) (now (s .entry)) token) ⌝ }
 {
     match token {
         Token::Wrong => Look::Fault(ILL_FORMED),
@@ -164,7 +164,7 @@ pub fn look_at(
     modes: &[u16],
 ) -> Look
     requires { ⌜ Roomy c (now names) (now hashes) (now arities) × (15 < length (now modes)) ⌝ }
-    ensures { λ r. ⌜ (Hashed (now (names .entry)) (now (hashes .entry)) 0 (c .predicates + c .functions) → r ≡ lookOf (textSoFar c (now (names .entry)) (now (arities .entry))) query (rowOf p (now (modes .entry)) []) (now (s .entry))) ⌝ }
+    ensures { λ r. ⌜ (Hashed (now (names .entry)) (now (hashes .entry)) 0 (c .predicates + c .functions) → r ≡ lookOf (symbolsIn c (now (names .entry)) (now (arities .entry))) query (rowOf p (now (modes .entry)) []) (now (s .entry))) ⌝ }
 {
     let token = token_of(s, query);
     if p.wanted == 0 {

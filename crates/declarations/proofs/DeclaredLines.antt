@@ -1,6 +1,6 @@
 -- Declaration lines: the text that stands in the room is the text with the declaration.
-use Prim.Native.Nat.{ℕ, suc, _+_, _*_, _≤_, _<_}
-use mathlib.Core.Path.{_≡_, refl, sym, ap, _∙_}
+use Prim.Native.Nat.{ℕ, _+_, _<_}
+use mathlib.Core.Path.{_≡_, refl, sym, _∙_}
 use mathlib.Core.List.{List, [], _∷_, _++_}
 use native.Mathlib.Omega.{arith}
 use mathlib.Core.Bool.{Bool, true, false, _&&_}
@@ -16,24 +16,24 @@ use Rattle.declarations.specs.declared.declare.Declared.{Declared}
 use Rattle.declarations.specs.declared.declare.Declared.the-variants.{Fault, Symbol}
 use Rattle.declarations.specs.declared.lined.Lined.the-variants.{Fault as LinedFault, More}
 use Rattle.program.specs.Reply.{illFormed}
-use Rattle.cells.specs.TextSoFar.{TextSoFar, Read, wrong}
-use Rattle.declarations.specs.Declarations.{two, declared, predLine, funcLine}
-use Rattle.cells.specs.Room.{Roomy, textSoFar}
+use Rattle.cells.specs.TextSoFar.{Read, wrong, funcSection, TextSoFar, nothing, later, oneMore}
+use Rattle.declarations.specs.Declarations.{two, declared, declarationLine}
+use Rattle.cells.specs.Room.{Roomy}
 use Rattle.declarations.specs.Added.{Added}
-use Rattle.declarations.specs.Held.{Holds, LinedAs, moreOf}
+use Rattle.declarations.specs.Held.{linesIn, textSoFar, Holds, LinedAs, moreOf}
 use Rattle.declarations.proofs.Symbols.{kept-more}
 
--- a word behind those that stand behind room for three counts
-pub word-last : (ws words : List ℕ) (place w : ℕ) → words ≡ inRoom maxWords (0 ∷ 0 ∷ 0 ∷ ws) → place ≡ 3 + length ws
-    → set words place w ≡ inRoom maxWords (0 ∷ 0 ∷ 0 ∷ ws ++ w ∷ [])
+-- a word behind those that stand behind room for the counts
+word-last : (ws words : List ℕ) (place w : ℕ) → words ≡ inRoom maxWords (nothing .lines ++ ws) → place ≡ length (nothing .lines) + length ws
+    → set words place w ≡ inRoom maxWords (nothing .lines ++ (ws ++ w ∷ []))
 word-last ws words place w e f =
-    let n : place ≡ length (0 ∷ 0 ∷ 0 ∷ ws) = omega arith in
-    rw (n, e) (set-behind maxWords (0 ∷ 0 ∷ 0 ∷ ws) w)
+    let n : place ≡ length (nothing .lines ++ ws) = omega arith in
+    rw (n, e) (set-behind maxWords (nothing .lines ++ ws) w)
 
 module _ (ns ws : List ℕ) (c c′ : Counts) (names hashes arities words names′ hashes′ arities′ words′ : List ℕ) (name : List ℕ) (n : ℕ)
     (room : Roomy c names hashes arities) (holds : Holds ns ws c names hashes arities words)
     (number : n ≡ c .predicates + c .functions) (more : c′ .predicates + c′ .functions ≡ n + 1) (few : n < maxNames)
-    (none : c .clauses ≡ 0) (same : c′ .clauses ≡ c .clauses) (behind : c′ .words ≡ c .words + 1) where
+    (none : later (linesIn c) funcSection ≡ 0) (section : ℕ) (grown : linesIn c′ ≡ oneMore (linesIn c) section) (behind : c′ .words ≡ c .words + 1) where
   holds-more : (arity : ℕ) → Added name arity n (c .words) names hashes arities words names′ hashes′ arities′ words′
       → Holds (ns ++ padded name) (ws ++ arity ∷ []) c′ names′ hashes′ arities′ words′
   holds-more arity add =
@@ -48,22 +48,18 @@ module _ (ns ws : List ℕ) (c c′ : Counts) (names hashes arities words names�
       }
 
   pub lined-symbol : (d : Declared) (arity : ℕ) → d ≡ Symbol arity → Added name arity n (c .words) names hashes arities words names′ hashes′ arities′ words′
-      → LinedAs names′ hashes′ arities′ words′ (More c′) (moreOf (declared (textSoFar c ns ws) (c′ .predicates) (c′ .functions) name d))
+      → LinedAs names′ hashes′ arities′ words′ (More c′) (moreOf (declared (textSoFar c ns ws) section name d))
   lined-symbol d arity e add =
-      rw e (c′, refl, (λ i. record { predicates = c′ .predicates; functions = c′ .functions; clauses = sym same i; names = ns ++ padded name; words = ws ++ arity ∷ [] }), holds-more arity add)
+      rw e (c′, refl, (λ i. record { lines = sym grown i; names = ns ++ padded name; words = ws ++ arity ∷ [] }), holds-more arity add)
 
-pub lined-fault : (ns ws : List ℕ) (c c′ : Counts) (names hashes arities words name : List ℕ) (d : Declared) (number place : ℕ) → d ≡ Fault number place
-    → LinedAs names hashes arities words (LinedFault number place) (moreOf (declared (textSoFar c ns ws) (c′ .predicates) (c′ .functions) name d))
-lined-fault ns ws c c′ names hashes arities words name d number place e = rw e
+pub lined-fault : (ns ws : List ℕ) (c : Counts) (section : ℕ) (names hashes arities words name : List ℕ) (d : Declared) (number place : ℕ) → d ≡ Fault number place
+    → LinedAs names hashes arities words (LinedFault number place) (moreOf (declared (textSoFar c ns ws) section name d))
+lined-fault ns ws c section names hashes arities words name d number place e = rw e
 
 -- not exactly three fields
-pub pred-wrong : (t : TextSoFar) (at : ℕ) (ss : List (List ℕ)) → ((place : ℕ) (f : List ℕ → List ℕ → Read TextSoFar) → two place ss f ≡ wrong illFormed place)
-    → predLine t at ss ≡ wrong illFormed at
-pred-wrong t at ss w = w at _
-
-pub func-wrong : (t : TextSoFar) (at : ℕ) (ss : List (List ℕ)) → ((place : ℕ) (f : List ℕ → List ℕ → Read TextSoFar) → two place ss f ≡ wrong illFormed place)
-    → funcLine t at ss ≡ wrong illFormed at
-func-wrong t at ss w = w at _
+pub declaration-wrong : (t : TextSoFar) (section from at : ℕ) (ss : List (List ℕ))
+    → ((place : ℕ) (f : List ℕ → List ℕ → Read TextSoFar) → two place ss f ≡ wrong illFormed place) → declarationLine t section from at ss ≡ wrong illFormed at
+declaration-wrong t section from at ss w = w at _
 
 -- a line's answer, by what the text so far comes to with it
 pub lined-wrong : (names hashes arities words : List ℕ) (o : Read TextSoFar) {number place : ℕ} → o ≡ wrong number place

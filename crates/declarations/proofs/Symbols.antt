@@ -1,22 +1,21 @@
 -- A symbol put behind the others: the symbols that stand in the room are those with it.
-use Prim.Native.Nat.{ℕ, zero, suc, _+_, _-_, _*_, _≤_, _<_}
-use mathlib.Core.Path.{_≡_, refl, sym, ap, _∙_}
-use mathlib.Core.Bool.{Bool, true, false, cond, _&&_}
-use mathlib.Core.Logic.{_⊎_, inl, inr}
+use Prim.Native.Nat.{ℕ, _+_, _-_, _*_, _≤_, _<_}
+use mathlib.Core.Path.{_≡_, sym, ap, _∙_}
+use mathlib.Core.Bool.{cond, _&&_}
 use mathlib.Core.List.{List, [], _∷_, _++_}
 use native.Mathlib.Omega.{arith}
 use native.Mathlib.Decide.{decLt}
-use lib.ListN.{length, getD, take, drop, set, length-append, length-drop, List·getD-append}
+use lib.ListN.{length, getD, take, drop, length-append, length-drop, List·getD-append}
 use lib.Seq.{getD-set-same, getD-set-other, getD-append-seam, drop-append-le, take-append-le, drop-at, take-all}
 use lib.Dec.{eqb}
 use Rattle.text.specs.Room.{inRoom}
-use Rattle.text.specs.Name.{nameBytes, maxNames, entry, padded, seek, hashOf, Hashed}
+use Rattle.text.specs.Name.{nameBytes, maxNames, entry, padded, hashOf}
 use Rattle.text.specs.Token.{isName, numberOf}
 use Rattle.text.proofs.Rooms.{length-inRoom}
 use Rattle.cells.specs.declared.state.Counts.{Counts}
 use Rattle.program.specs.Reply.{badName}
 use Rattle.declarations.specs.declared.declare.Declared.the-variants.{Fault}
-use Rattle.declarations.specs.Declarations.{fresh, arityOf, symbolOf}
+use Rattle.declarations.specs.Declarations.{arityOf, symbolOf}
 use Rattle.cells.specs.Room.{SymbolsHeld, Roomy}
 use Rattle.declarations.specs.Added.{Added}
 use Rattle.cells.proofs.HeldSymbols.{entry-kept, seek-alike, entries}

@@ -1,6 +1,6 @@
 -- Declaration lines: a name that is new in its kind, and its arity.
 use Prim.Native.Nat.{ℕ, _+_}
-use mathlib.Core.Bool.{Bool, cond, _&&_}
+use mathlib.Core.Bool.{Bool, cond, _&&_, _||_}
 use mathlib.Core.List.{List, [], _∷_, _++_}
 use lib.ListN.{length}
 use lib.Dec.{eqb, ltb}
@@ -12,7 +12,7 @@ use Rattle.text.specs.declared.token.Number.{Number}
 use Rattle.text.specs.declared.token.Number.the-variants.{None, Value}
 use Rattle.declarations.specs.declared.declare.Declared.{Declared}
 use Rattle.declarations.specs.declared.declare.Declared.the-variants.{Fault, Symbol}
-use Rattle.cells.specs.TextSoFar.{Read, wrong, right, TextSoFar}
+use Rattle.cells.specs.TextSoFar.{Read, wrong, right, predSection, funcSection, TextSoFar, count, later, withLine}
 
 -- `pred` and `func` have four letters
 abbrev pub declaring : ℕ
@@ -38,36 +38,28 @@ two at (name ∷ []) f = wrong illFormed at
 two at (name ∷ arity ∷ []) f = f name arity
 two at (name ∷ arity ∷ more ∷ ss) f = wrong illFormed at
 
--- the text so far with one more name and arity, of a predicate or of a function
-abbrev pub withSymbol : TextSoFar → ℕ → ℕ → List ℕ → ℕ → TextSoFar
-withSymbol t predicates functions name arity =
-    record {
-      predicates = predicates;
-      functions = functions;
-      clauses = t .clauses;
-      names = t .names ++ padded name;
-      words = t .words ++ arity ∷ [];
-    }
+-- A line of a section may stand where none of a later section does ("its kind stands after a later kind"), there is a `pred` before it,
+-- and there are not yet 64 of its kind.
+abbrev pub mayCome : TextSoFar → ℕ → Bool
+mayCome t section = (eqb section predSection || ltb 0 (count t predSection)) && ltb (count t section) maxDeclared
 
-abbrev pub declared : TextSoFar → ℕ → ℕ → List ℕ → Declared → Read TextSoFar
-declared t predicates functions name (Fault number place) = wrong number place
-declared t predicates functions name (Symbol arity) = right (withSymbol t predicates functions name arity)
+abbrev pub opens : {A : Type 0} → TextSoFar → ℕ → ℕ → Read A → Read A
+opens t section at line =
+    cond (eqb (later (t .lines) section) 0) (cond (mayCome t section) line (wrong outOfRange at)) (wrong illFormed at)
 
--- "First the `pred` lines (name, arity), then `func` lines": a line at `at`, with its fields behind the keyword
-abbrev pub predLine : TextSoFar → ℕ → List (List ℕ) → Read TextSoFar
-predLine t at ss =
+abbrev pub declared : TextSoFar → ℕ → List ℕ → Declared → Read TextSoFar
+declared t section name (Fault number place) = wrong number place
+declared t section name (Symbol arity) = right (withLine t section (t .names ++ padded name) (arity ∷ []))
+
+-- a declaration of a section whose first name has number `from`: a line at `at`, with its fields behind the keyword
+abbrev pub declarationLine : TextSoFar → ℕ → ℕ → ℕ → List (List ℕ) → Read TextSoFar
+declarationLine t section from at ss =
     two at ss
-    (λ name arity. cond (eqb (t .functions + t .clauses) 0)
-    (cond (ltb (t .predicates) maxDeclared)
-    (declared t (t .predicates + 1) (t .functions) name (symbolOf (t .names) 0 (t .predicates) (at + declaring) name arity))
-    (wrong outOfRange at))
-    (wrong illFormed at))
+    (λ name arity. opens t section at (declared t section name (symbolOf (t .names) from (count t section) (at + declaring) name arity)))
+
+-- "First the `pred` lines (name, arity), then `func` lines"
+abbrev pub predLine : TextSoFar → ℕ → List (List ℕ) → Read TextSoFar
+predLine t at ss = declarationLine t predSection 0 at ss
 
 abbrev pub funcLine : TextSoFar → ℕ → List (List ℕ) → Read TextSoFar
-funcLine t at ss =
-    two at ss
-    (λ name arity. cond (eqb (t .clauses) 0)
-    (cond (ltb 0 (t .predicates) && ltb (t .functions) maxDeclared)
-    (declared t (t .predicates) (t .functions + 1) name (symbolOf (t .names) (t .predicates) (t .functions) (at + declaring) name arity))
-    (wrong outOfRange at))
-    (wrong illFormed at))
+funcLine t at ss = declarationLine t funcSection (count t predSection) at ss

@@ -1,24 +1,31 @@
 -- The text so far, as it stands in the room, and when the answer for a line is right.
 use Prim.Native.Nat.{ℕ, _+_, _*_, _≤_}
 use mathlib.Core.Path.{_≡_}
-use mathlib.Core.List.{List, _∷_}
+use mathlib.Core.List.{List, [], _∷_, _++_}
 use lib.ListN.{length}
 use Rattle.program.specs.Limits.{maxDeclared, maxWords}
 use Rattle.text.specs.Name.{nameBytes, maxNames}
 use Rattle.text.specs.Room.{inRoom}
-use Rattle.cells.specs.TextSoFar.{TextSoFar, Read, wrong, right, next, Line, more, last}
-use Rattle.cells.specs.Room.{SymbolsHeld, textSoFar}
+use Rattle.cells.specs.TextSoFar.{Read, wrong, right, next, funcSection, TextSoFar, nothing, later, Line, more, last}
+use Rattle.cells.specs.Room.{SymbolsHeld}
 use Rattle.cells.specs.declared.state.Counts.{Counts}
 use Rattle.declarations.specs.declared.lined.Lined.{Lined}
 use Rattle.declarations.specs.declared.lined.Lined.the-variants.{Fault, More, Last}
 
--- the names ns, and the words ws behind room for three counts
+-- how many lines each section has
+abbrev pub linesIn : Counts → List ℕ
+linesIn c = c .predicates ∷ c .functions ∷ c .clauses ∷ []
+
+abbrev pub textSoFar : Counts → List ℕ → List ℕ → TextSoFar
+textSoFar c names words = record { lines = linesIn c; names = names; words = words }
+
+-- the names ns, and the words ws behind room for the counts
 pub record Holds (ns ws : List ℕ) (c : Counts) (names hashes arities words : List ℕ) : Type 0 where
   pub kept : SymbolsHeld ns ws c names hashes arities
-  pub word-room : words ≡ inRoom maxWords (0 ∷ 0 ∷ 0 ∷ ws)
-  pub place : c .words ≡ 3 + length ws
+  pub word-room : words ≡ inRoom maxWords (nothing .lines ++ ws)
+  pub place : c .words ≡ length (nothing .lines) + length ws
   pub enough : c .predicates + c .functions ≤ length ws
-  pub declared : c .clauses ≡ 0 → length ws ≡ c .predicates + c .functions
+  pub declared : later (linesIn c) funcSection ≡ 0 → length ws ≡ c .predicates + c .functions
 
 abbrev pub moreOf : Read TextSoFar → Read Line
 moreOf o = next o (λ t. right (more t))

@@ -20,8 +20,9 @@ ghost use Rattle.text.specs.Name.{maxNames};
 ghost use Rattle.text.specs.Line.{behind, tab};
 ghost use Rattle.program.specs.Limits.{maxDeclared};
 ghost use Rattle.declarations.specs.Declarations.{declaring, symbolOf, declared, predLine, funcLine};
-ghost use Rattle.cells.specs.Room.{Roomy, textSoFar};
-ghost use Rattle.declarations.specs.Held.{Holds, LinedAs, moreOf, Limited, Goes};
+ghost use Rattle.cells.specs.Room.{Roomy};
+ghost use Rattle.cells.specs.TextSoFar.{funcSection, later, oneMore};
+ghost use Rattle.declarations.specs.Held.{linesIn, textSoFar, Holds, LinedAs, moreOf, Limited, Goes};
 
 const DECLARING: usize = 4;
 
@@ -40,7 +41,7 @@ fn add_declared(
     words: &mut [u16],
 ) -> Lined
     requires { ⌜ Roomy c (now names) (now hashes) (now arities) × (declaring < middle) × (middle < length (now line)) × (base + length (now line) < 2 ^ 31) × (first + count < maxNames) × Limited next × (next .words ≡ c .words + 1) ⌝ }
-    ensures { λ r. ⌜ ((ns ws : List ℕ) → Holds ns ws c (now (names .entry)) (now (hashes .entry)) (now (arities .entry)) (now (words .entry)) → c .clauses ≡ 0 → next .clauses ≡ c .clauses → first + count ≡ c .predicates + c .functions → next .predicates + next .functions ≡ first + count + 1 → LinedAs (now (names .exit)) (now (hashes .exit)) (now (arities .exit)) (now (words .exit)) r (moreOf (declared (textSoFar c ns ws) (next .predicates) (next .functions) (between (now (line .entry)) (declaring + 1) middle) (symbolOf ns first count (base + declaring) (between (now (line .entry)) (declaring + 1) middle) (between (now (line .entry)) (middle + 1) (length (now (line .entry)))))))) ⌝ }
+    ensures { λ r. ⌜ ((ns ws : List ℕ) (section : ℕ) → Holds ns ws c (now (names .entry)) (now (hashes .entry)) (now (arities .entry)) (now (words .entry)) → later (linesIn c) funcSection ≡ 0 → linesIn next ≡ oneMore (linesIn c) section → first + count ≡ c .predicates + c .functions → next .predicates + next .functions ≡ first + count + 1 → LinedAs (now (names .exit)) (now (hashes .exit)) (now (arities .exit)) (now (words .exit)) r (moreOf (declared (textSoFar c ns ws) section (between (now (line .entry)) (declaring + 1) middle) (symbolOf ns first count (base + declaring) (between (now (line .entry)) (declaring + 1) middle) (between (now (line .entry)) (middle + 1) (length (now (line .entry)))))))) ⌝ }
     ensures goes { λ r. ⌜ Goes (c .words + 1) r ⌝ }
 {
     let start = DECLARING + 1;

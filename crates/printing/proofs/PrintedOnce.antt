@@ -2,7 +2,6 @@
 use Prim.Native.Nat.{ℕ}
 use mathlib.Core.Path.{_≡_, refl, sym, ap₂, _∙_}
 use mathlib.Core.List.{List}
-use Rattle.program.specs.declared.reply.Reply.{Reply}
 use Rattle.cells.specs.TextSoFar.{Read, wrong, right, Scenario}
 use Rattle.reader.specs.Read.{readOf}
 use Rattle.cells.proofs.Readings.{wrong-or-right}

@@ -5,7 +5,7 @@ use mathlib.Core.Bool.{Bool, true, false, cond}
 use mathlib.Core.List.{List, [], _∷_}
 use native.Mathlib.Omega.{arith}
 use native.Mathlib.Numerals.{add-one}
-use lib.ListN.{length, getD, take, drop, length-take, length-drop, drop-of-length-le}
+use lib.ListN.{length, getD, drop, length-take, length-drop, drop-of-length-le}
 use lib.Seq.{drop-cons}
 use lib.Dec.{eqb}
 use borrow.Author.Tests.{lt-ltb, le-ltb}
@@ -21,8 +21,7 @@ use Rattle.declarations.specs.declared.lined.Lined.{Lined}
 use Rattle.declarations.specs.declared.lined.Lined.the-variants.{Fault, More, Last}
 use Rattle.cells.specs.TextSoFar.{TextSoFar, Read, wrong, right, nothing, Scenario, Line, more, last}
 use Rattle.text_lines.specs.Lines.{fieldsOf, ending, linesOf, allLines}
-use Rattle.cells.specs.Room.{textSoFar}
-use Rattle.declarations.specs.Held.{Holds, LinedAs, Limited}
+use Rattle.declarations.specs.Held.{textSoFar, Holds, LinedAs, Limited}
 use Rattle.reader.specs.Found.{FoundAs}
 use Rattle.reader.specs.declared.all_lines.Found.the-variants.{Fault as FoundFault, Done}
 

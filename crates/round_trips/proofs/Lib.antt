@@ -6,6 +6,8 @@ pub mod ReadModes
 pub mod ReadAtoms
 pub mod ReadNames
 pub mod ReadLines
+pub mod Sections
+pub mod ReadSoFar
 pub mod ReadDeclarations
 pub mod ReadClauses
 pub mod ReadQuery

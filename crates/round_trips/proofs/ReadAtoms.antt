@@ -18,7 +18,8 @@ use Rattle.program.specs.declared.cells.Cell.the-variants.{Opens}
 use Rattle.program.proofs.Taking.{terms-cell, no-terms}
 use Rattle.program.proofs.WordsOfTerms.{function-opens, variable-opens}
 use Rattle.text.specs.Decimal.{decimal}
-use Rattle.cells.specs.TextSoFar.{wrong, right, next, TextSoFar}
+use Rattle.cells.specs.Symbols.{Symbols}
+use Rattle.cells.specs.TextSoFar.{wrong, right, next}
 use Rattle.cells.specs.Cells.{Row, modeOf, lookOf, withSymbol, withVariable, takenAt, complete, cellsOf}
 use Rattle.written_lines.specs.Tokens.{symbolToken, argumentToken, atomTokens}
 use Rattle.round_trips.proofs.Tokens.{both-true, signByte, variable-token-is}
@@ -32,7 +33,7 @@ allTokens names predicates modes [] = []
 allTokens names predicates modes (a ∷ others) = atomTokens names predicates modes (enc a) ++ allTokens names predicates modes others
 
 -- what is known of a line from row r to its end, row r′: arguments of the atom that was begun, and other atoms
-pub record Taken (t : TextSoFar) (ps fs : List ℕ) (query : Bool) (r : Row) (ss : List (List ℕ)) (r′ : Row) : Type 0 where
+pub record Taken (t : Symbols) (ps fs : List ℕ) (query : Bool) (r : Row) (ss : List (List ℕ)) (r′ : Row) : Type 0 where
   pub cells : List ℕ
   pub out : r′ .out ≡ r .out ++ cells
   pub arguments : Terms
@@ -73,7 +74,7 @@ encs-variable v arity ts =
     let same : firstVariable + v - firstVariable ≡ v = omega arith in
     rw (le-ltb (firstVariable + v) firstVariable high) (rw same)
 
-module _ (t : TextSoFar) (ps fs : List ℕ) (query : Bool) (declares : Declares t ps fs) (r : Row) (s : List ℕ) (ss : List (List ℕ)) (r′ : Row) where
+module _ (t : Symbols) (ps fs : List ℕ) (query : Bool) (declares : Declares t ps fs) (r : Row) (s : List ℕ) (ss : List (List ℕ)) (r′ : Row) where
   -- an atom's first token
   start-more : (w : ℕ) → r .wanted ≡ 0 → r .atoms ≤ maxBody → w < length ps → s ≡ symbolToken (t .names) w → (query ≡ true → r .atoms ≡ 0)
       → Taken t ps fs query (withSymbol r w (getD ps w 0)) ss r′ → Taken t ps fs query r (s ∷ ss) r′
@@ -152,7 +153,7 @@ module _ (t : TextSoFar) (ps fs : List ℕ) (query : Bool) (declares : Declares 
       (rw (le-ltb (firstVariable + v) firstVariable high) (rw same (token ∙ sym (variable-token-is (r′ .modes) v ground final)))) k
 
 -- (atom) a line's tokens, from a row on
-module _ (t : TextSoFar) (ps fs : List ℕ) (query : Bool) (declares : Declares t ps fs) where
+module _ (t : Symbols) (ps fs : List ℕ) (query : Bool) (declares : Declares t ps fs) where
   -- the row with the token's cell has its modes too
   taken-modal : {r r₁ : Row} {s : List ℕ} → Modal query r → Takes t ps fs query r s r₁ → Modal query r₁
   taken-modal m (starts none few below token) = record { met = m .met; each = m .each; any = m .any }

@@ -7,7 +7,7 @@ use mathlib.Core.List.{List, [], _∷_}
 use lib.ListN.{length, getD}
 use lib.Dec.{eqb, ltb, leb}
 use Rattle.terms.specs.Cells.{atomCells}
-use Rattle.program.specs.Limits.{maxDeclared, maxArity, maxBody, maxVariable, maxWords, maxBytes}
+use Rattle.program.specs.Limits.{maxArity, maxBody, maxVariable, maxWords, maxBytes}
 use Rattle.program.specs.Reply.{accepted, noRoom, outOfRange, undeclared}
 use Rattle.program.proofs.FaultNumbers.{FaultNumber}
 use Rattle.text.specs.Line.{parts, tab, lineFeed}
@@ -24,8 +24,9 @@ use Rattle.cells.specs.declared.look.Look.{Look}
 use Rattle.cells.specs.declared.look.Look.the-variants.{Fault, Symbol, Variable as Met}
 use Rattle.declarations.specs.declared.declare.Declared.{Declared}
 use Rattle.declarations.specs.declared.declare.Declared.the-variants.{Fault as DeclaredFault, Symbol as DeclaredSymbol}
-use Rattle.cells.specs.TextSoFar.{Read, wrong, right, next, TextSoFar, nothing, Scenario, Line, more, last}
-use Rattle.declarations.specs.Declarations.{declaring, fresh, arityOf, symbolOf, two, declared, predLine, funcLine}
+use Rattle.cells.specs.Symbols.{Symbols}
+use Rattle.cells.specs.TextSoFar.{Read, wrong, right, next, predSection, funcSection, clauseSection, TextSoFar, nothing, count, later, symbolsOf, Scenario, Line, more, last}
+use Rattle.declarations.specs.Declarations.{declaring, fresh, arityOf, symbolOf, two, mayCome, opens, declared, declarationLine, predLine, funcLine}
 use Rattle.cells.specs.Cells.{Row, modeOf, noCells, namedOf, variableAt, startOf, argumentOf, lookOf, takenAt, complete, cellsOf}
 use Rattle.text_lines.specs.Lines.{withClause, withGoal, clauseLine, queryLine, lineOf, fieldsOf, ending, linesOf, allLines}
 use Rattle.reader.specs.Read.{counted, readOf, inRooms, answerOf, replyOf}
@@ -62,15 +63,15 @@ variable-faults seen modes v ground =
     (either LookFaulty (ltb seen v) (omega arith)
     (either LookFaulty (ltb v seen) (either LookFaulty (eqb (getD modes v 0) (modeOf ground)) tt (omega arith)) tt))
 
-start-faults : (t : TextSoFar) (atoms : ℕ) (s : List ℕ) (k : Token) → LookFaulty (startOf t atoms s k)
+start-faults : (t : Symbols) (atoms : ℕ) (s : List ℕ) (k : Token) → LookFaulty (startOf t atoms s k)
 start-faults t atoms s Wrong = omega arith
-start-faults t atoms s Name = either LookFaulty (ltb maxBody atoms) (omega arith) (named-faults (t .names) (t .words) 0 (t .predicates) s)
+start-faults t atoms s Name = either LookFaulty (ltb maxBody atoms) (omega arith) (named-faults (t .names) (t .arities) 0 (t .predicates) s)
 start-faults t atoms s (Variable ground v) = either LookFaulty (ltb maxBody atoms) {x = Fault outOfRange} {y = Fault undeclared} (omega arith) (omega arith)
 
-argument-faults : (t : TextSoFar) (r : Row) (s : List ℕ) (k : Token) → LookFaulty (argumentOf t r s k)
+argument-faults : (t : Symbols) (r : Row) (s : List ℕ) (k : Token) → LookFaulty (argumentOf t r s k)
 argument-faults t r s Wrong = omega arith
 argument-faults t r s Name =
-    either LookFaulty (leb atomCells (r .cells)) (omega arith) (named-faults (t .names) (t .words) (t .predicates) (t .predicates + t .functions) s)
+    either LookFaulty (leb atomCells (r .cells)) (omega arith) (named-faults (t .names) (t .arities) (t .predicates) (t .predicates + t .functions) s)
 argument-faults t r s (Variable ground v) = either LookFaulty (leb atomCells (r .cells)) (omega arith) (variable-faults (r .variables) (r .modes) v ground)
 
 taken-faults : (r : Row) (at : ℕ) (l : Look) → LookFaulty l → FaultyBy (takenAt r at l)
@@ -78,7 +79,7 @@ taken-faults r at (Fault number) h = h
 taken-faults r at (Symbol word arity) h = tt
 taken-faults r at (Met v ground) h = tt
 
-cells-faults : (ss : List (List ℕ)) (t : TextSoFar) (query : Bool) (r : Row) (at : ℕ) → FaultyBy (cellsOf t query r at ss)
+cells-faults : (ss : List (List ℕ)) (t : Symbols) (query : Bool) (r : Row) (at : ℕ) → FaultyBy (cellsOf t query r at ss)
 cells-faults [] t query r at = either FaultyBy (complete r) tt (omega arith)
 cells-faults (s ∷ ss) t query r at =
     either FaultyBy (query && complete r) (omega arith)
@@ -91,15 +92,18 @@ arity-faults : (at : ℕ) (n : Number) → DeclaredFaulty (arityOf at n)
 arity-faults at None = omega arith
 arity-faults at (Value n) = either DeclaredFaulty (ltb maxArity n) (omega arith) tt
 
-declared-faults : (t : TextSoFar) (predicates functions : ℕ) (name : List ℕ) (d : Declared) → DeclaredFaulty d → FaultyBy (declared t predicates functions name d)
-declared-faults t predicates functions name (DeclaredFault number place) h = h
-declared-faults t predicates functions name (DeclaredSymbol arity) h = tt
+declared-faults : (t : TextSoFar) (section : ℕ) (name : List ℕ) (d : Declared) → DeclaredFaulty d → FaultyBy (declared t section name d)
+declared-faults t section name (DeclaredFault number place) h = h
+declared-faults t section name (DeclaredSymbol arity) h = tt
 
-symbol-faults : (t : TextSoFar) (predicates functions from n at : ℕ) (name arity : List ℕ)
-    → FaultyBy (declared t predicates functions name (symbolOf (t .names) from n at name arity))
-symbol-faults t predicates functions from n at name arity =
-    declared-faults t predicates functions name (symbolOf (t .names) from n at name arity)
+symbol-faults : (t : TextSoFar) (section from n at : ℕ) (name arity : List ℕ) → FaultyBy (declared t section name (symbolOf (t .names) from n at name arity))
+symbol-faults t section from n at name arity =
+    declared-faults t section name (symbolOf (t .names) from n at name arity)
     (either DeclaredFaulty (fresh (t .names) from n name) (arity-faults (at + 1 + length name + 1) (numberOf arity)) (omega arith))
+
+opens-faults : {A : Type 0} (t : TextSoFar) (section at : ℕ) (o : Read A) → FaultyBy o → FaultyBy (opens t section at o)
+opens-faults t section at o h =
+    either FaultyBy (eqb (later (t .lines) section) 0) (either FaultyBy (mayCome t section) h (omega arith)) (omega arith)
 
 two-faults : {A : Type 0} (at : ℕ) (ss : List (List ℕ)) (f : List ℕ → List ℕ → Read A) → ((name arity : List ℕ) → FaultyBy (f name arity)) → FaultyBy (two at ss f)
 two-faults at [] f h = omega arith
@@ -107,28 +111,22 @@ two-faults at (name ∷ []) f h = omega arith
 two-faults at (name ∷ arity ∷ []) f h = h name arity
 two-faults at (name ∷ arity ∷ other ∷ ss) f h = omega arith
 
+declaration-faults : (t : TextSoFar) (section from at : ℕ) (ss : List (List ℕ)) → FaultyBy (declarationLine t section from at ss)
+declaration-faults t section from at ss =
+    two-faults at ss _ (λ name arity. opens-faults t section at _ (symbol-faults t section from (count t section) (at + declaring) name arity))
+
 line-faults : (t : TextSoFar) (at : ℕ) (k : Kind) (ss : List (List ℕ)) → FaultyBy (lineOf t at k ss)
-line-faults t at Pred ss =
-    next-faults (predLine t at ss) (λ t′. right (more t′))
-    (two-faults at ss _ (λ name arity. either FaultyBy (eqb (t .functions + t .clauses) 0)
-    (either FaultyBy (ltb (t .predicates) maxDeclared) (symbol-faults t (t .predicates + 1) (t .functions) 0 (t .predicates) (at + declaring) name arity) (omega arith)) (omega arith)))
-    (λ t′. tt)
-line-faults t at Func ss =
-    next-faults (funcLine t at ss) (λ t′. right (more t′))
-    (two-faults at ss _ (λ name arity. either FaultyBy (eqb (t .clauses) 0)
-    (either FaultyBy (ltb 0 (t .predicates) && ltb (t .functions) maxDeclared)
-    (symbol-faults t (t .predicates) (t .functions + 1) (t .predicates) (t .functions) (at + declaring) name arity) (omega arith)) (omega arith)))
-    (λ t′. tt)
+line-faults t at Pred ss = next-faults (predLine t at ss) (λ t′. right (more t′)) (declaration-faults t predSection 0 at ss) (λ t′. tt)
+line-faults t at Func ss = next-faults (funcLine t at ss) (λ t′. right (more t′)) (declaration-faults t funcSection (count t predSection) at ss) (λ t′. tt)
 line-faults t at Clause ss =
     next-faults (clauseLine t at ss) (λ t′. right (more t′))
-    (either FaultyBy (ltb 0 (t .predicates) && ltb (t .clauses) maxDeclared)
-    (next-faults (cellsOf t false noCells (at + length clause) ss) (λ r. right (withClause t r)) (cells-faults ss t false noCells (at + length clause)) (λ r. tt))
-    (omega arith))
+    (opens-faults t clauseSection at _
+    (next-faults (cellsOf (symbolsOf t) false noCells (at + length clause) ss) (λ r. right (withClause t r)) (cells-faults ss (symbolsOf t) false noCells (at + length clause)) (λ r. tt)))
     (λ t′. tt)
 line-faults t at Query ss =
     next-faults (queryLine t at ss) (λ s. right (last s))
-    (either FaultyBy (ltb 0 (t .predicates))
-    (next-faults (cellsOf t true noCells (at + length query) ss) (λ r. right (withGoal t r)) (cells-faults ss t true noCells (at + length query)) (λ r. tt))
+    (either FaultyBy (ltb 0 (count t predSection))
+    (next-faults (cellsOf (symbolsOf t) true noCells (at + length query) ss) (λ r. right (withGoal t r)) (cells-faults ss (symbolsOf t) true noCells (at + length query)) (λ r. tt))
     (omega arith))
     (λ s. tt)
 line-faults t at Other ss = omega arith

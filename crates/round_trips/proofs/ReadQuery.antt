@@ -12,15 +12,16 @@ use Rattle.terms.specs.Cells.{enc}
 use Rattle.program.specs.Limits.{maxWords}
 use Rattle.program.specs.Reply.{outOfRange}
 use Rattle.program.specs.Reading.{Decoded, right as part, next as and-then}
-use Rattle.program.specs.Program.{Clause, Program}
+use Rattle.program.specs.Program.{Program}
 use Rattle.program.specs.Atoms.{atom, atoms}
 use Rattle.program.specs.Faults.{maskOf}
-use Rattle.program.specs.Within.{after, modesOf, encodeClauses, encode, WithinLimits}
+use Rattle.program.specs.Within.{after, modesOf, encode, WithinLimits}
 use Rattle.program.proofs.Words.{next-right as part-right}
 use Rattle.program.proofs.AtomWords.{Atom-read, atom-read}
 use Rattle.program.proofs.Modes.{modes-of-mask, mask-below}
 use Rattle.text_lines.specs.Keyword.{query}
-use Rattle.cells.specs.TextSoFar.{right, TextSoFar, Scenario}
+use Rattle.cells.specs.Symbols.{Symbols}
+use Rattle.cells.specs.TextSoFar.{right, predSection, TextSoFar, count, symbolsOf, Scenario}
 use Rattle.cells.specs.Cells.{Row, noCells, cellsOf}
 use Rattle.text_lines.specs.Lines.{withGoal, queryLine}
 use Rattle.written_lines.specs.Tokens.{atomTokens, line}
@@ -29,7 +30,8 @@ use Rattle.round_trips.proofs.ReadParts.{next-right, first-right}
 use Rattle.round_trips.proofs.ReadModes.{Modal, no-modes}
 use Rattle.round_trips.proofs.ReadNames.{Sound-names}
 use Rattle.round_trips.proofs.ReadAtoms.{allTokens, cells-taken}
-use Rattle.round_trips.proofs.ReadDeclarations.{SoFar, ReadSoFar}
+use Rattle.round_trips.proofs.Sections.{Section, countsIn, wordsBefore, words-behind, text-behind}
+use Rattle.round_trips.proofs.ReadSoFar.{sectionsOf, ReadSoFar, predicates-counted}
 use Rattle.round_trips.proofs.ReadClauses.{LineAtoms, line-atoms, so-declares}
 
 -- a scenario and its text: the words say a program, the names are sound for it, and the text is what is written of both
@@ -59,13 +61,13 @@ one-atom ps fs seen ws g v e =
         is ∙ ap₂ (λ (x : Term × ℕ) (l : List ℕ). part x l) (ap₂ {C = Term × ℕ} (λ (x : Term) (y : ℕ). (x, y)) goal met) left
 
 -- what is known of the goal that was read
-record GoalLine (t : TextSoFar) (ps fs : List ℕ) (ss : List (List ℕ)) (r : Row) : Type 0 where
+record GoalLine (t : Symbols) (ps fs : List ℕ) (ss : List (List ℕ)) (r : Row) : Type 0 where
   is : Term
   read : Atom-read ps fs 0 (r .out) is (r .variables) []
   tokens : ss ≡ atomTokens (t .names) (t .predicates) (r .modes) (enc is)
   modal : Modal true r
 
-goal-made : (t : TextSoFar) (ps fs : List ℕ) (ss : List (List ℕ)) (r : Row) → LineAtoms t ps fs true ss r → GoalLine t ps fs ss r
+goal-made : (t : Symbols) (ps fs : List ℕ) (ss : List (List ℕ)) (r : Row) → LineAtoms t ps fs true ss r → GoalLine t ps fs ss r
 goal-made t ps fs ss r k = by (k .all) (k .counted) (k .tokens) (k .taken)
   where
     by : (all : List Term) → r .atoms ≡ length all → ss ≡ allTokens (t .names) (t .predicates) (r .modes) all
@@ -80,10 +82,27 @@ goal-made t ps fs ss r k = by (k .all) (k .counted) (k .tokens) (k .taken)
         }
     by (g ∷ h ∷ others) count tokens taken = absurd (omega (arith, k .single refl))
 
-module _ (t : TextSoFar) (text ps fs : List ℕ) (cs : List Clause) (so : SoFar t text ps fs cs) (some : 0 < t .predicates)
-    (ss : List (List ℕ)) (r : Row) (g : GoalLine t ps fs ss r) where
+-- the counts, the words of the sections, and the goal behind them
+goal-words : (ss : List Section) (lines words out cells modes : List ℕ) (k v : ℕ) → lines ≡ countsIn ss → words ≡ wordsBefore ss [] → out ≡ cells → k ≡ v
+    → countsIn ss ++ wordsBefore ss (cells ++ v ∷ modes) ≡ lines ++ (words ++ out ++ k ∷ modes)
+goal-words ss lines words out cells modes k v e f g h =
+    rw (e, f, g, h)
+    (ap (λ (l : List ℕ). countsIn ss ++ l) (sym (append-assoc (wordsBefore ss []) cells (v ∷ modes) ∙ words-behind ss [] (cells ++ v ∷ modes))))
+
+module _ (t : TextSoFar) (text : List ℕ) (read : ReadSoFar t text) (some : 0 < count t predSection)
+    (ss : List (List ℕ)) (r : Row) (g : GoalLine (symbolsOf t) (read .program .predicates) (read .program .functions) ss r) where
+  abbrev sections : List Section
+  sections = sectionsOf (t .names) (read .program)
+
   abbrev readProgram : Program
-  readProgram = record { predicates = ps; functions = fs; clauses = cs; goal = g .is; ground = maskOf (r .modes) }
+  readProgram =
+      record {
+        predicates = read .program .predicates;
+        functions = read .program .functions;
+        clauses = read .program .clauses;
+        goal = g .is;
+        ground = maskOf (r .modes);
+      }
 
   variables-met : length (r .modes) ≡ after 0 (g .is)
   variables-met = g .modal .met ∙ g .read .meets
@@ -95,22 +114,20 @@ module _ (t : TextSoFar) (text ps fs : List ℕ) (cs : List Clause) (so : SoFar 
   goal-encoded : encode readProgram ≡ withGoal t r .words
   unfolding encode
   goal-encoded =
-      rw (modes-back, so .predicates, so .functions, so .clauses, so .words, g .read .is, g .read .meets, append-nil (enc (g .is)))
-      (ap (λ (l : List ℕ). length ps ∷ length fs ∷ length cs ∷ l)
-      (sym (append-assoc (ps ++ (fs ++ encodeClauses cs)) (enc (g .is)) (after 0 (g .is) ∷ r .modes)
-      ∙ append-assoc ps (fs ++ encodeClauses cs) (enc (g .is) ++ after 0 (g .is) ∷ r .modes)
-      ∙ ap (λ (l : List ℕ). ps ++ l) (append-assoc fs (encodeClauses cs) (enc (g .is) ++ after 0 (g .is) ∷ r .modes)))))
+      rw modes-back
+      (goal-words sections (t .lines) (t .words) (r .out) (enc (g .is)) (r .modes) (r .variables) (after 0 (g .is)) (read .so .lines) (read .so .words)
+      (g .read .is ∙ append-nil (enc (g .is))) (g .read .meets))
 
   goal-within : length (withGoal t r .words) ≤ maxWords → WithinLimits readProgram
   goal-within short =
       record {
-        some = omega (arith, so .predicates);
-        predicates-most = so .predicates-most;
-        functions-most = so .functions-most;
-        clauses-most = so .clauses-most;
-        predicate-arities = so .predicate-arities;
-        function-arities = so .function-arities;
-        clauses-within = so .within;
+        some = omega (arith, predicates-counted (t .names) (read .program) (read .so));
+        predicates-most = read .within .predicates-most;
+        functions-most = read .within .functions-most;
+        clauses-most = read .within .clauses-most;
+        predicate-arities = read .within .predicate-arities;
+        function-arities = read .within .function-arities;
+        clauses-within = read .within .clauses-within;
         goal-atom = g .read .sound;
         goal-numbered = g .read .numbered;
         marks = rw (← variables-met) (mask-below (r .modes) (g .modal .each));
@@ -119,8 +136,10 @@ module _ (t : TextSoFar) (text ps fs : List ℕ) (cs : List Clause) (so : SoFar 
 
   goal-written : textOf readProgram (t .names) ≡ text ++ line query ss
   goal-written =
-      let tokens : ss ≡ atomTokens (t .names) (length ps) (r .modes) (enc (g .is)) = rw (so .predicates) at (g .tokens) in
-      rw modes-back (ap₂ (λ (x : List ℕ) (y : List (List ℕ)). x ++ line query y) (sym (so .written)) (sym tokens))
+      let tokens : ss ≡ atomTokens (t .names) (length (read .program .predicates)) (r .modes) (enc (g .is))
+      = g .tokens ∙ ap (λ (n : ℕ). atomTokens (t .names) n (r .modes) (enc (g .is))) (predicates-counted (t .names) (read .program) (read .so)) in
+      rw modes-back
+      (sym (ap₂ (λ (x : List ℕ) (y : List (List ℕ)). x ++ line query y) (read .so .written) tokens ∙ text-behind sections [] _))
 
   program-read : ReadProgram (withGoal t r) (text ++ line query ss)
   program-read =
@@ -128,7 +147,7 @@ module _ (t : TextSoFar) (text ps fs : List ℕ) (cs : List Clause) (so : SoFar 
         program = readProgram;
         encoded = goal-encoded;
         within = goal-within;
-        named = so .sound;
+        named = read .sound;
         written = goal-written;
       }
 
@@ -136,12 +155,12 @@ module _ (t : TextSoFar) (text ps fs : List ℕ) (cs : List Clause) (so : SoFar 
 pub query-read : (t : TextSoFar) (s : Scenario) (text : List ℕ) (at : ℕ) (ss : List (List ℕ)) → ReadSoFar t text → queryLine t at ss ≡ right s
     → ReadProgram s (text ++ line query ss)
 query-read t s text at ss read e =
-    let ps = read .ps in
-    let fs = read .fs in
-    let one = first-right (ltb 0 (t .predicates)) _ outOfRange at s e in
-    let two = next-right (cellsOf t true noCells (at + length query) ss) (λ r. right (withGoal t r)) s (one .1) in
-    let declares = so-declares t text ps fs (read .cs) (read .so) in
-    let k = cells-taken t ps fs true declares ss noCells (at + length query) (two .0) (no-modes true) (two .1) in
-    let g = goal-made t ps fs ss (two .0) (line-atoms t ps fs true ss (two .0) k) in
+    let ps = read .program .predicates in
+    let fs = read .program .functions in
+    let one = first-right (ltb 0 (count t predSection)) _ outOfRange at s e in
+    let two = next-right (cellsOf (symbolsOf t) true noCells (at + length query) ss) (λ r. right (withGoal t r)) s (one .1) in
+    let declares = so-declares (read .program) (read .so) (read .within .functions-most) in
+    let k = cells-taken (symbolsOf t) ps fs true declares ss noCells (at + length query) (two .0) (no-modes true) (two .1) in
+    let g = goal-made (symbolsOf t) ps fs ss (two .0) (line-atoms (symbolsOf t) ps fs true ss (two .0) k) in
     let same : withGoal t (two .0) ≡ s = cc (two .2) in
-    rw (← same) (program-read t text ps fs (read .cs) (read .so) (ltb-true _ _ (one .0)) ss (two .0) g)
+    rw (← same) (program-read t text read (ltb-true _ _ (one .0)) ss (two .0) g)

@@ -21,7 +21,8 @@ use Rattle.reader.proofs.TextLines.{afterLine, linesOf-more}
 use Rattle.written_lines.specs.Tokens.{line}
 use Rattle.round_trips.proofs.ReadLines.{behindEach, parts-together, line-together}
 use Rattle.round_trips.proofs.ReadParts.{next-right, second-right}
-use Rattle.round_trips.proofs.ReadDeclarations.{ReadSoFar, nothing-so-far, pred-read, func-read}
+use Rattle.round_trips.proofs.ReadSoFar.{ReadSoFar, nothing-so-far}
+use Rattle.round_trips.proofs.ReadDeclarations.{pred-read, func-read}
 use Rattle.round_trips.proofs.ReadClauses.{clause-read}
 use Rattle.round_trips.proofs.ReadQuery.{ReadProgram, query-read}
 
@@ -91,7 +92,7 @@ lines-read (m ∷ ls) t at l text s read e =
 all-read : (text : List ℕ) (s : Scenario) (ls : List (List ℕ)) → parts lineFeed text ≡ ls → allLines nothing 0 ls ≡ right s → ReadProgram s text
 all-read text s [] f e = let z : _≡_ {A = ℕ} 0 1 = cc in absurd (omega arith)
 all-read text s (l ∷ ls) f e =
-    rw (← parts-together lineFeed text l ls f) at (lines-read ls nothing 0 l [] s (record { ps = []; fs = []; cs = []; so = nothing-so-far }) e)
+    rw (← parts-together lineFeed text l ls f) at (lines-read ls nothing 0 l [] s nothing-so-far e)
 
 -- an accepted text
 pub record ReadText (text : List ℕ) (s : Scenario) : Type 0 where

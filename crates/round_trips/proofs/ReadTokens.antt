@@ -17,21 +17,22 @@ use Rattle.text.specs.Decimal.{decimal}
 use Rattle.text.specs.declared.token.Token.{Token}
 use Rattle.text.specs.declared.token.Token.the-variants.{Wrong, Name, Variable}
 use Rattle.cells.specs.declared.look.Look.the-variants.{Fault, Symbol, Variable as Met}
-use Rattle.cells.specs.TextSoFar.{right, TextSoFar}
+use Rattle.cells.specs.Symbols.{Symbols}
+use Rattle.cells.specs.TextSoFar.{right}
 use Rattle.cells.specs.Cells.{Row, modeOf, namedOf, variableAt, startOf, argumentOf, lookOf, withSymbol, withVariable, takenAt}
 use Rattle.written_lines.specs.Tokens.{nameIn, symbolToken}
 use Rattle.round_trips.proofs.Tokens.{signByte, Variable-token, variable-token, name-token, name-in-padded, seek-found}
 
--- the declarations before the clauses: the arities of each kind, in their places
-pub record Declares (t : TextSoFar) (ps fs : List ℕ) : Type 0 where
+-- the declared symbols: the arities of each kind, in their places
+pub record Declares (t : Symbols) (ps fs : List ℕ) : Type 0 where
   pub predicates : t .predicates ≡ length ps
   pub functions : t .functions ≡ length fs
   pub rest : List ℕ
-  pub words : t .words ≡ ps ++ (fs ++ rest)
+  pub arities : t .arities ≡ ps ++ (fs ++ rest)
   pub few : length fs ≤ maxDeclared
 
 -- what a token comes to: the row with its cell, and the token that is written for the cell
-pub data Takes (t : TextSoFar) (ps fs : List ℕ) (query : Bool) (r : Row) (s : List ℕ) : Row → Type 0 where
+pub data Takes (t : Symbols) (ps fs : List ℕ) (query : Bool) (r : Row) (s : List ℕ) : Row → Type 0 where
   starts : {w : ℕ} → r .wanted ≡ 0 → r .atoms ≤ maxBody → w < length ps → s ≡ symbolToken (t .names) w
       → Takes t ps fs query r s (withSymbol r w (getD ps w 0))
   function : {w n : ℕ} → r .wanted ≡ suc n → r .cells < atomCells → w < length fs → s ≡ symbolToken (t .names) (t .predicates + w)
@@ -69,32 +70,32 @@ named-found names words from to s r at r′ h is-name e = by (ltb found to) refl
         }
     by false b q = let z : _≡_ {A = ℕ} 0 1 = cc in absurd (omega arith)
 
-module _ (t : TextSoFar) (ps fs : List ℕ) (declares : Declares t ps fs) where
-  predicate-arity : (w : ℕ) → w < length ps → getD (t .words) w 0 ≡ getD ps w 0
-  predicate-arity w h = rw (declares .words) (List·getD-append ps (fs ++ declares .rest) 0 w h)
+module _ (t : Symbols) (ps fs : List ℕ) (declares : Declares t ps fs) where
+  predicate-arity : (w : ℕ) → w < length ps → getD (t .arities) w 0 ≡ getD ps w 0
+  predicate-arity w h = rw (declares .arities) (List·getD-append ps (fs ++ declares .rest) 0 w h)
 
-  function-arity : (w : ℕ) → w < length fs → getD (t .words) (t .predicates + w) 0 ≡ getD fs w 0
+  function-arity : (w : ℕ) → w < length fs → getD (t .arities) (t .predicates + w) 0 ≡ getD fs w 0
   function-arity w h =
-      rw (declares .words, declares .predicates) (getD-append-add ps (fs ++ declares .rest) w 0 ∙ List·getD-append fs (declares .rest) 0 w h)
+      rw (declares .arities, declares .predicates) (getD-append-add ps (fs ++ declares .rest) w 0 ∙ List·getD-append fs (declares .rest) 0 w h)
 
-module _ (t : TextSoFar) (ps fs : List ℕ) (query : Bool) (declares : Declares t ps fs) (r : Row) (at : ℕ) (s : List ℕ) (r′ : Row) where
+module _ (t : Symbols) (ps fs : List ℕ) (query : Bool) (declares : Declares t ps fs) (r : Row) (at : ℕ) (s : List ℕ) (r′ : Row) where
   predicate-taken : r .wanted ≡ 0 → isName s ≡ true → (b : Bool) → ltb maxBody (r .atoms) ≡ b
-      → takenAt r at (cond b (Fault outOfRange) (namedOf (t .names) (t .words) 0 (t .predicates) s)) ≡ right r′ → Takes t ps fs query r s r′
+      → takenAt r at (cond b (Fault outOfRange) (namedOf (t .names) (t .arities) 0 (t .predicates) s)) ≡ right r′ → Takes t ps fs query r s r′
   predicate-taken none is-name true b q = let z : _≡_ {A = ℕ} 0 1 = cc in absurd (omega arith)
   predicate-taken none is-name false b q =
-      let found = named-found (t .names) (t .words) 0 (t .predicates) s r at r′ (omega arith) is-name q in
+      let found = named-found (t .names) (t .arities) 0 (t .predicates) s r at r′ (omega arith) is-name q in
       let same : 0 + found .number ≡ found .number = omega arith in
       let below : found .number < length ps = omega (arith, found .within, declares .predicates) in
-      let arity : getD (t .words) (0 + found .number) 0 ≡ getD ps (found .number) 0 =
-      ap (λ (k : ℕ). getD (t .words) k 0) same ∙ predicate-arity t ps fs declares (found .number) below in
+      let arity : getD (t .arities) (0 + found .number) 0 ≡ getD ps (found .number) 0 =
+      ap (λ (k : ℕ). getD (t .arities) k 0) same ∙ predicate-arity t ps fs declares (found .number) below in
       rw (← found .row, arity) (starts none (ltb-false maxBody (r .atoms) b) below (rw same at (found .token)))
 
   function-taken : (n : ℕ) → r .wanted ≡ suc n → isName s ≡ true → (b : Bool) → leb atomCells (r .cells) ≡ b
-      → takenAt r at (cond b (Fault longAtom) (namedOf (t .names) (t .words) (t .predicates) (t .predicates + t .functions) s)) ≡ right r′
+      → takenAt r at (cond b (Fault longAtom) (namedOf (t .names) (t .arities) (t .predicates) (t .predicates + t .functions) s)) ≡ right r′
       → Takes t ps fs query r s r′
   function-taken n some is-name true b q = let z : _≡_ {A = ℕ} 0 1 = cc in absurd (omega arith)
   function-taken n some is-name false b q =
-      let found = named-found (t .names) (t .words) (t .predicates) (t .predicates + t .functions) s r at r′ (omega arith) is-name q in
+      let found = named-found (t .names) (t .arities) (t .predicates) (t .predicates + t .functions) s r at r′ (omega arith) is-name q in
       let below : found .number < length fs = omega (arith, found .within, declares .functions) in
       rw (← found .row, function-arity t ps fs declares (found .number) below) (function some (leb-false atomCells (r .cells) b) below (found .token))
 

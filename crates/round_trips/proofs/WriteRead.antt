@@ -1,28 +1,29 @@
 -- From words to words: an accepted program with sound names, written and read again, is the same words and the same names.
-use Prim.Native.Nat.{ℕ, _+_, _≤_, _<_}
+use Prim.Native.Nat.{ℕ, _+_, _≤_}
 use native.Mathlib.Omega.{arith}
-use native.Mathlib.Nat.{zero-add}
 use mathlib.Core.Path.{_≡_, refl, sym, ap, _∙_}
-use mathlib.Core.List.{List, [], _++_, append-assoc}
+use mathlib.Core.List.{List, [], _∷_, _++_}
 use lib.ListN.{length}
 use borrow.Author.Tests.{le-ltb}
 use Rattle.terms.specs.Cells.{enc}
 use Rattle.program.specs.Limits.{maxWords, maxBytes}
 use Rattle.program.specs.Program.{Program}
 use Rattle.program.specs.Faults.{Found, fault, sound, faults}
-use Rattle.program.specs.Within.{after, modesOf, encodeClauses, encode, WithinLimits}
+use Rattle.program.specs.Within.{after, modesOf, encode, WithinLimits}
 use Rattle.program.proofs.ProgramWords.{sound-encoded, sound-within}
-use Rattle.text_lines.specs.Keyword.{pred, func, query}
+use Rattle.text_lines.specs.Keyword.{query}
 use Rattle.cells.specs.TextSoFar.{right, nothing, Scenario}
 use Rattle.reader.specs.Read.{readOf}
 use Rattle.writer.specs.Names.{namesOf}
 use Rattle.written_lines.specs.Tokens.{atomTokens, line}
-use Rattle.written_lines.specs.Lines.{declarations, clauseLines}
+use Rattle.written_lines.specs.Lines.{clauseLines}
 use Rattle.writer.specs.Write.{textOf, written, writeOf}
 use Rattle.round_trips.proofs.ReadParts.{next-right}
 use Rattle.round_trips.proofs.ReadNames.{Sound-names, names-right}
 use Rattle.round_trips.proofs.WrittenNames.{names-sound}
-use Rattle.round_trips.proofs.WrittenLines.{ReadsOn, reads-same}
+use Rattle.round_trips.proofs.Sections.{last-section}
+use Rattle.round_trips.proofs.ReadSoFar.{predicatesOf, functionsOf, clausesOf}
+use Rattle.round_trips.proofs.WrittenLines.{ReadsOn}
 use Rattle.round_trips.proofs.WrittenDeclarations.{reads-declared}
 use Rattle.round_trips.proofs.WrittenClauses.{reads-clauses}
 use Rattle.round_trips.proofs.WrittenQuery.{reads-query}
@@ -65,17 +66,13 @@ unfolding encode
 reads-text p names w s =
     let ps : List ℕ = p .predicates in
     let fs : List ℕ = p .functions in
-    let some : 0 < length ps = w .some in
-    let d₁ : List ℕ = declarations pred names 0 ps in
-    let d₂ : List ℕ = declarations func names (length ps) fs in
-    let cs : List ℕ = clauseLines names (length ps) (p .clauses) in
-    let q : List ℕ = line query (atomTokens names (length ps) (modesOf (after 0 (p .goal)) (p .ground)) (enc (p .goal))) in
-    reads-same nothing (textOf p names) (d₁ ++ (d₂ ++ (cs ++ q))) (scenario (encode p) names)
-    (append-assoc (d₁ ++ d₂) cs q ∙ append-assoc d₁ d₂ (cs ++ q))
-    (reads-declared names ps fs (cs ++ q) (scenario (encode p) names) s (w .some) (w .predicates-most) (w .functions-most) (w .predicate-arities) (w .function-arities)
-    (reads-clauses names ps fs s 0 [] (p .clauses) q (scenario (encode p) names) some (rw (zero-add (length (p .clauses))) (w .clauses-most)) (w .clauses-within)
-    (rw (zero-add (length (p .clauses)))
-    (reads-query names ps fs s (length (p .clauses)) (encodeClauses (p .clauses)) (p .goal) (p .ground) some (w .goal-atom) (w .goal-numbered)))))
+    let cs = p .clauses in
+    let rest : List ℕ = line query (atomTokens names (length ps) (modesOf (after 0 (p .goal)) (p .ground)) (enc (p .goal))) in
+    reads-declared names ps fs s (clauseLines names (length ps) cs ++ rest) (scenario (encode p) names)
+    (w .some) (w .predicates-most) (w .functions-most) (w .predicate-arities) (w .function-arities)
+    (reads-clauses names ps fs s cs rest (scenario (encode p) names) (w .some) (w .clauses-most) (w .clauses-within)
+    (rw (last-section names (predicatesOf names ps ∷ functionsOf names (length ps) fs ∷ []) (clausesOf names (length ps) cs))
+    (reads-query names ps fs s (clausesOf names (length ps) cs ∷ []) (p .goal) (p .ground) (w .some) (w .goal-atom) (w .goal-numbered))))
 
 -- it is never refused: not too long, no fault, not too many words
 program-read : (p : Program) (names : List ℕ) → WithinLimits p → Sound-names names (length (p .predicates)) (length (p .functions))

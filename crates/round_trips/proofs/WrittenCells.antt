@@ -2,10 +2,10 @@
 use Prim.Native.Nat.{ℕ, zero, suc, _+_, _-_, _≤_, _<_}
 use native.Mathlib.Omega.{arith}
 use native.Mathlib.Numerals.{add-one}
-use mathlib.Core.Path.{_≡_, refl, sym, ap, ap₂, _∙_}
+use mathlib.Core.Path.{_≡_, refl, sym, ap₂, _∙_}
 use mathlib.Core.Logic.{_⊎_, inl, inr}
 use mathlib.Core.Bool.{Bool, true, false, cond}
-use mathlib.Core.List.{List, [], _∷_, _++_, append-assoc}
+use mathlib.Core.List.{List, [], _∷_, _++_}
 use lib.ListN.{length, getD, length-append, List·getD-append}
 use lib.Seq.{getD-at, getD-append-add}
 use native.Mathlib.Nat.{sub-zero}
@@ -20,7 +20,7 @@ use Rattle.text.specs.Name.{padded, seek}
 use Rattle.text.specs.declared.token.Token.the-variants.{Variable}
 use Rattle.text.proofs.Tokens.{tokenOf-name}
 use Rattle.cells.specs.declared.look.Look.the-variants.{Fault, Symbol, Variable as Met}
-use Rattle.cells.specs.TextSoFar.{TextSoFar}
+use Rattle.cells.specs.Symbols.{Symbols}
 use Rattle.cells.specs.Cells.{Row, modeOf, lookOf}
 use Rattle.written_lines.specs.Tokens.{symbolToken, variableToken}
 use Rattle.round_trips.proofs.PrintedNumbers.{number-printed}
@@ -50,14 +50,9 @@ getD-modes ms (suc k) v h = go (decLt v k) (getD-modes ms k v)
         let last : v ≡ k = omega arith in
         rw last (getD-at (modesUpTo ms k) (getD ms k 0) [] 0 k (length-modesUpTo ms k))
 
--- the text so far, behind the declarations, with the clauses' words
-abbrev pub declaredSoFar : List ℕ → List ℕ → List ℕ → ℕ → List ℕ → TextSoFar
-declaredSoFar names ps fs n ws =
-    record { predicates = length ps; functions = length fs; clauses = n; names = names; words = ps ++ (fs ++ ws) }
-
--- more words behind those so far
-pub words-behind : (ps fs ws more : List ℕ) → (ps ++ (fs ++ ws)) ++ more ≡ ps ++ (fs ++ (ws ++ more))
-words-behind ps fs ws more = append-assoc ps (fs ++ ws) more ∙ ap (λ (l : List ℕ). ps ++ l) (append-assoc fs ws more)
+-- the symbols that these arities declare, with words behind them
+abbrev pub declaredSymbols : List ℕ → List ℕ → List ℕ → List ℕ → Symbols
+declaredSymbols names ps fs ws = record { predicates = length ps; functions = length fs; names = names; arities = ps ++ (fs ++ ws) }
 
 -- a line as far as it was read
 abbrev pub rowAt : List ℕ → ℕ → ℕ → ℕ → ℕ → List ℕ → Row
@@ -74,14 +69,14 @@ variable-read query ms v h (inr ground) =
     let sign : eqb (getD ms v 0) groundMode ≡ true = rw (ground .0) in
     (true, rw (sign, ground .1, number-printed v h .read), sym (ground .0))
 
-module _ (names ps fs : List ℕ) (n : ℕ) (ws : List ℕ) (query : Bool) (ms : List ℕ)
+module _ (names ps fs ws : List ℕ) (query : Bool) (ms : List ℕ)
     (sound : Sound-names names (length ps) (length fs)) where
-  abbrev so-far : TextSoFar
-  so-far = declaredSoFar names ps fs n ws
+  abbrev symbols : Symbols
+  symbols = declaredSymbols names ps fs ws
 
   -- the first token of an atom
   pub start-symbol : (w atoms cells seen : ℕ) (out : List ℕ) → w < length ps → atoms ≤ maxBody
-      → lookOf so-far query (rowAt ms atoms 0 cells seen out) (symbolToken names w) ≡ Symbol w (getD ps w 0)
+      → lookOf symbols query (rowAt ms atoms 0 cells seen out) (symbolToken names w) ≡ Symbol w (getD ps w 0)
   start-symbol w atoms cells seen out h few =
       let s : Sound-name names (length ps) w = sound-name sound w (omega arith) in
       let at : seek names (padded (symbolToken names w)) 0 (length ps - 0) ≡ w
@@ -91,7 +86,7 @@ module _ (names ps fs : List ℕ) (n : ℕ) (ws : List ℕ) (query : Bool) (ms :
 
   -- an argument's token
   pub argument-symbol : (f atoms m cells seen : ℕ) (out : List ℕ) → f < length fs → cells < atomCells
-      → lookOf so-far query (rowAt ms atoms (suc m) cells seen out) (symbolToken names (length ps + f)) ≡ Symbol f (getD fs f 0)
+      → lookOf symbols query (rowAt ms atoms (suc m) cells seen out) (symbolToken names (length ps + f)) ≡ Symbol f (getD fs f 0)
   argument-symbol f atoms m cells seen out h few =
       let s : Sound-name names (length ps) (length ps + f) = sound-name sound (length ps + f) (omega arith) in
       let below : length ps + f < length ps + length fs = omega arith in
@@ -104,7 +99,7 @@ module _ (names ps fs : List ℕ) (n : ℕ) (ws : List ℕ) (query : Bool) (ms :
 
   pub argument-variable : (v atoms m cells seen : ℕ) (out : List ℕ) (ground : Bool) → v < variables → v ≤ seen → cells < atomCells
       → tokenOf query (variableToken ms v) ≡ Variable ground v → modeOf ground ≡ getD ms v 0
-      → lookOf so-far query (rowAt ms atoms (suc m) cells seen out) (variableToken ms v) ≡ Met v ground
+      → lookOf symbols query (rowAt ms atoms (suc m) cells seen out) (variableToken ms v) ≡ Met v ground
   argument-variable v atoms m cells seen out ground h known few is mode =
       let wanting : eqb (suc m) 0 ≡ false = ne-eqb (suc m) 0 (λ (e : suc m ≡ 0). omega arith) in
       let small : v ≤ maxVariable = omega arith in

@@ -4,7 +4,7 @@ use native.Mathlib.Omega.{arith}
 use native.Mathlib.Nat.{zero-add}
 use native.Mathlib.Numerals.{add-one}
 use mathlib.Core.Path.{_≡_, refl}
-use mathlib.Core.List.{List, [], _∷_, _++_, append-nil, append-assoc}
+use mathlib.Core.List.{List, [], _∷_, _++_, append-assoc}
 use lib.ListN.{length}
 use lib.Seq.{take-all}
 use borrow.Author.Tests.{lt-ltb, le-ltb, eq-eqb}
@@ -18,14 +18,15 @@ use Rattle.declarations.specs.Declarations.{symbolOf}
 use Rattle.declarations.specs.declared.declare.Declared.the-variants.{Symbol}
 use Rattle.text_lines.specs.Lines.{fieldsOf}
 use Rattle.writer.specs.Names.{firstOf}
-use Rattle.written_lines.specs.Tokens.{symbolToken, line}
-use Rattle.written_lines.specs.Lines.{declarations}
-use Rattle.round_trips.proofs.Printed.{Bytes, Printed, name-printed}
+use Rattle.written_lines.specs.Tokens.{symbolToken}
+use Rattle.written_lines.specs.Lines.{declarationFields, declarations}
+use Rattle.round_trips.proofs.Printed.{Printed, name-printed}
 use Rattle.round_trips.proofs.PrintedNumbers.{number-printed}
 use Rattle.round_trips.proofs.ReadNames.{Sound-names}
 use Rattle.round_trips.proofs.WrittenNames.{sound-name, Sound-name, firstNames, names-more, name-new, first-predicate, first-function}
-use Rattle.round_trips.proofs.WrittenCells.{declaredSoFar}
-use Rattle.round_trips.proofs.WrittenLines.{ReadsOn, line-more}
+use Rattle.round_trips.proofs.Sections.{inSection, next-section}
+use Rattle.round_trips.proofs.ReadSoFar.{declarationItems, predicatesOf, functionsOf}
+use Rattle.round_trips.proofs.WrittenLines.{ReadsOn, reads-section}
 
 pub arity-printed : (arity : ℕ) → arity ≤ maxArity → Printed (decimal arity)
 arity-printed arity h = let d = number-printed arity (omega arith) in record { bytes = d .bytes; short = omega (arith, d .short) }
@@ -42,84 +43,71 @@ symbol-new names predicates from m i arity at is e l sound h =
       le-ltb maxArity arity h,
     )
 
--- the text so far, after i symbols, of predicates alone
-abbrev predicatesSoFar : List ℕ → ℕ → List ℕ → TextSoFar
-predicatesSoFar names i ws = record { predicates = i; functions = 0; clauses = 0; names = firstNames names i; words = ws }
+module _ (names ps fs : List ℕ) (sound : Sound-names names (length ps) (length fs)) where
+  -- the text so far, within the predicates and within the functions, by the number of the next symbol
+  abbrev inPredicates : ℕ → List ℕ → TextSoFar
+  inPredicates i ws = inSection (firstNames names i) [] 2 i ws
 
--- and of so many predicates, and functions behind them
-abbrev functionsSoFar : List ℕ → ℕ → ℕ → List ℕ → TextSoFar
-functionsSoFar names p i ws = record { predicates = p; functions = i - p; clauses = 0; names = firstNames names i; words = ws }
+  abbrev inFunctions : ℕ → List ℕ → TextSoFar
+  inFunctions i ws = inSection (firstNames names i) (predicatesOf names ps ∷ []) 1 (i - length ps) ws
 
-module _ (names : List ℕ) (predicates functions : ℕ) (sound : Sound-names names predicates functions) where
-  pred-read : (i arity : ℕ) (ws : List ℕ) (at : ℕ) → i < predicates → predicates ≤ maxDeclared → arity ≤ maxArity
-      → fieldsOf (predicatesSoFar names i ws) at (pred ∷ symbolToken names i ∷ decimal arity ∷ [])
-      ≡ right (goesOn (predicatesSoFar names (suc i) (ws ++ arity ∷ [])))
+  pred-read : (i arity : ℕ) (ws : List ℕ) (at : ℕ) → i < length ps → length ps ≤ maxDeclared → arity ≤ maxArity
+      → fieldsOf (inPredicates i ws) at (pred ∷ declarationFields names i arity) ≡ right (goesOn (inPredicates (suc i) (ws ++ arity ∷ [])))
   pred-read i arity ws at h most small =
-      let s : Sound-name names predicates i = sound-name sound i (omega arith) in
+      let s : Sound-name names (length ps) i = sound-name sound i (omega arith) in
       let room : i * nameBytes ≤ length names = omega (arith, sound .sized) in
       rw (
         lt-ltb i maxDeclared (omega arith),
-        symbol-new names predicates 0 i i arity (at + 4) (omega arith) (first-predicate predicates i h) room s small,
+        symbol-new names (length ps) 0 i i arity (at + 4) (omega arith) (first-predicate (length ps) i h) room s small,
         s .kept,
         names-more names i,
         add-one i,
       )
 
-  func-read : (i arity : ℕ) (ws : List ℕ) (at : ℕ) → 0 < predicates → predicates ≤ i → i < predicates + functions → functions ≤ maxDeclared → arity ≤ maxArity
-      → fieldsOf (functionsSoFar names predicates i ws) at (func ∷ symbolToken names i ∷ decimal arity ∷ [])
-      ≡ right (goesOn (functionsSoFar names predicates (suc i) (ws ++ arity ∷ [])))
+  func-read : (i arity : ℕ) (ws : List ℕ) (at : ℕ) → 0 < length ps → length ps ≤ i → i < length ps + length fs → length fs ≤ maxDeclared → arity ≤ maxArity
+      → fieldsOf (inFunctions i ws) at (func ∷ declarationFields names i arity) ≡ right (goesOn (inFunctions (suc i) (ws ++ arity ∷ [])))
   func-read i arity ws at some h few most small =
-      let s : Sound-name names predicates i = sound-name sound i few in
+      let s : Sound-name names (length ps) i = sound-name sound i few in
       let room : i * nameBytes ≤ length names = omega (arith, sound .sized) in
-      let one : i - predicates + 1 ≡ suc i - predicates = omega arith in
+      let one : i - length ps + 1 ≡ suc i - length ps = omega arith in
       rw (
-        lt-ltb 0 predicates some,
-        lt-ltb (i - predicates) maxDeclared (omega arith),
-        symbol-new names predicates predicates (i - predicates) i arity (at + 4) (omega arith) (first-function predicates i h) room s small,
+        lt-ltb 0 (length ps) some,
+        lt-ltb (i - length ps) maxDeclared (omega arith),
+        symbol-new names (length ps) (length ps) (i - length ps) i arity (at + 4) (omega arith) (first-function (length ps) i h) room s small,
         s .kept,
         names-more names i,
         one,
+        append-assoc ps ws (arity ∷ []),
       )
 
-  -- declarations of one kind, one by one; `so-far` is the text so far by its symbols
-  reads-declarations : (keyword : List ℕ) (so-far : ℕ → List ℕ → TextSoFar) (from to : ℕ) → Bytes keyword → to ≤ predicates + functions
-      → ((i arity : ℕ) (ws : List ℕ) (at : ℕ) → from ≤ i → i < to → arity ≤ maxArity
-      → fieldsOf (so-far i ws) at (keyword ∷ symbolToken names i ∷ decimal arity ∷ []) ≡ right (goesOn (so-far (suc i) (ws ++ arity ∷ []))))
-      → (i : ℕ) (arities ws rest : List ℕ) (s : Scenario) → from ≤ i → i + length arities ≡ to → Each (λ arity. arity ≤ maxArity) arities
-      → ReadsOn (so-far to (ws ++ arities)) rest s → ReadsOn (so-far i ws) (declarations keyword names i arities ++ rest) s
-  reads-declarations keyword so-far from to k few step i [] ws rest s l e none r =
-      let same : i ≡ to = omega arith in
-      rw same (rw (append-nil ws) at r)
-  reads-declarations keyword so-far from to k few step i (arity ∷ arities) ws rest s l e (more h each) r =
-      let printed : Printed (symbolToken names i) = name-printed (symbolToken names i) (sound-name sound i (omega arith) .name) in
-      rw (append-assoc (line keyword (symbolToken names i ∷ decimal arity ∷ [])) (declarations keyword names (suc i) arities) rest)
-      (line-more (so-far i ws) keyword (symbolToken names i ∷ decimal arity ∷ []) k (more printed (more (arity-printed arity h) none))
-      (declarations keyword names (suc i) arities ++ rest) (so-far (suc i) (ws ++ arity ∷ [])) s (λ at. step i arity ws at l (omega arith) h)
-      (reads-declarations keyword so-far from to k few step (suc i) arities (ws ++ arity ∷ []) rest s (omega arith) (omega arith) each
-      (rw (append-assoc ws (arity ∷ []) arities) r)))
+  declaration-printed : (i arity : ℕ) → i < length ps + length fs → arity ≤ maxArity → Each Printed (declarationFields names i arity)
+  declaration-printed i arity h small =
+      more (name-printed (symbolToken names i) (sound-name sound i h .name)) (more (arity-printed arity small) none)
 
--- all declarations, and what is read behind them
-pub reads-declared : (names ps fs rest : List ℕ) (s : Scenario) → Sound-names names (length ps) (length fs)
-    → minPredicates ≤ length ps → length ps ≤ maxDeclared → length fs ≤ maxDeclared
-    → Each (λ arity. arity ≤ maxArity) ps → Each (λ arity. arity ≤ maxArity) fs
-    → ReadsOn (declaredSoFar names ps fs 0 []) rest s
-    → ReadsOn nothing (declarations pred names 0 ps ++ (declarations func names (length ps) fs ++ rest)) s
-reads-declared names ps fs rest s sound some most functions-most small functions-small r =
-    reads-declarations names (length ps) (length fs) sound pred (predicatesSoFar names) 0 (length ps) (name-printed pred refl .bytes) (omega arith)
-    (λ i arity ws at l h small. pred-read names (length ps) (length fs) sound i arity ws at h most small)
-    0 ps [] (declarations func names (length ps) fs ++ rest) s (omega arith) (zero-add (length ps)) small
-    (rw start
-    (reads-declarations names (length ps) (length fs) sound func (functionsSoFar names (length ps)) (length ps) (length ps + length fs)
-    (name-printed func refl .bytes) (omega arith)
-    (λ i arity ws at l h small. func-read names (length ps) (length fs) sound i arity ws at (omega arith) l h functions-most small)
-    (length ps) fs ps rest s (omega arith) refl functions-small
-    (rw end r)))
-  where
-    start : predicatesSoFar names (length ps) ps ≡ functionsSoFar names (length ps) (length ps) ps
-    start = let none-yet : length ps - length ps ≡ 0 = omega arith in rw none-yet
+  -- all declarations, and what is read behind them
+  pub reads-declared : (rest : List ℕ) (s : Scenario) → minPredicates ≤ length ps → length ps ≤ maxDeclared → length fs ≤ maxDeclared
+      → Each (λ arity. arity ≤ maxArity) ps → Each (λ arity. arity ≤ maxArity) fs
+      → ReadsOn (inSection names (predicatesOf names ps ∷ functionsOf names (length ps) fs ∷ []) 0 0 []) rest s
+      → ReadsOn nothing (declarations pred names 0 ps ++ (declarations func names (length ps) fs ++ rest)) s
+  reads-declared rest s some most functions-most small functions-small r =
+      reads-section (declarationItems pred names) (name-printed pred refl .bytes) (λ arity. arity ≤ maxArity) inPredicates 0 (length ps)
+      (λ i arity h small. declaration-printed i arity (omega arith) small)
+      (λ i arity ws at l h small. pred-read i arity ws at h most small)
+      0 ps [] (declarations func names (length ps) fs ++ rest) s (omega arith) (zero-add (length ps)) small
+      (rw start
+      (reads-section (declarationItems func names) (name-printed func refl .bytes) (λ arity. arity ≤ maxArity) inFunctions (length ps) (length ps + length fs)
+      (λ i arity h small. declaration-printed i arity h small)
+      (λ i arity ws at l h small. func-read i arity ws at (omega arith) l h functions-most small)
+      (length ps) fs [] rest s (omega arith) refl functions-small
+      (rw end r)))
+    where
+      start : inPredicates (length ps) ps ≡ inFunctions (length ps) []
+      start =
+          let none-yet : length ps - length ps ≡ 0 = omega arith in
+          rw none-yet (next-section (firstNames names (length ps)) [] 1 (predicatesOf names ps))
 
-    end : functionsSoFar names (length ps) (length ps + length fs) (ps ++ fs) ≡ declaredSoFar names ps fs 0 []
-    end =
-        let all : length ps + length fs - length ps ≡ length fs = omega arith in
-        let whole : firstNames names (length ps + length fs) ≡ names = take-all ((length ps + length fs) * nameBytes) names (omega (arith, sound .sized)) in
-        rw (all, whole, append-nil fs)
+      end : inFunctions (length ps + length fs) fs ≡ inSection names (predicatesOf names ps ∷ functionsOf names (length ps) fs ∷ []) 0 0 []
+      end =
+          let all : length ps + length fs - length ps ≡ length fs = omega arith in
+          let whole : firstNames names (length ps + length fs) ≡ names = take-all ((length ps + length fs) * nameBytes) names (omega (arith, sound .sized)) in
+          rw (all, whole) (next-section names (predicatesOf names ps ∷ []) 0 (functionsOf names (length ps) fs))

@@ -1,23 +1,37 @@
 -- A written text is never too long: for each word it has at most 17 bytes, a tab and a token, and for each declaration 22 more.
-use Prim.Native.Nat.{ℕ, suc, _+_, _*_, _≤_}
+use Prim.Native.Nat.{ℕ, suc, _+_, _*_, _≤_, _<_}
 use native.Mathlib.Omega.{arith}
-use mathlib.Core.Path.{_≡_, refl, sym, ap, _∙_}
-use mathlib.Core.List.{List, [], _∷_, _++_, append-assoc}
+use mathlib.Core.Path.{_≡_, refl, ap, _∙_}
+use mathlib.Core.List.{List, [], _∷_, _++_}
 use lib.ListN.{length, length-append}
 use Rattle.terms.specs.Term.{Term}
 use Rattle.terms.specs.Cells.{enc, Atom}
 use Rattle.program.specs.Limits.{maxArity, maxBytes}
 use Rattle.program.specs.Program.{Clause, Program}
 use Rattle.program.specs.Within.{Each, none, more, after, modesOf, encodeAtoms, encodeClauses, encode, WithinClause, WithinLimits}
-use Rattle.text.specs.Decimal.{decimal}
 use Rattle.text_lines.specs.Keyword.{pred, func, clause, query}
-use Rattle.written_lines.specs.Tokens.{symbolToken, atomTokens, atomsTokens, behindTabs, line}
-use Rattle.written_lines.specs.Lines.{declarations, clauseLines}
+use Rattle.written_lines.specs.Tokens.{atomTokens, atomsTokens, behindTabs, line}
+use Rattle.written_lines.specs.Lines.{section, declarationFields, declarations, clauseLines}
 use Rattle.writer.specs.Write.{textOf}
+use Rattle.round_trips.proofs.Sections.{Items}
+use Rattle.round_trips.proofs.ReadSoFar.{declarationItems, clauseItems}
 use Rattle.round_trips.proofs.Printed.{Printed, tabs-length, line-length}
 use Rattle.round_trips.proofs.WrittenDeclarations.{arity-printed}
 use Rattle.round_trips.proofs.ReadNames.{Sound-names}
 use Rattle.round_trips.proofs.WrittenTokens.{symbol-printed, atom-printed, atom-tokens, atoms-printed, atoms-tokens}
+
+-- a section: for each line 17 bytes a word, and so many more
+section-bound : {A : Type 0} (k : Items A) (Within : A → Type 0) (over to : ℕ)
+    → ((i : ℕ) (a : A) → i < to → Within a → length (line (k .keyword) (k .fields i a)) ≤ 17 * length (k .word a) + over)
+    → (i : ℕ) (items : List A) → i + length items ≤ to → Each Within items
+    → length (section (k .keyword) (k .fields) i items) ≤ 17 * length (k .words items) + over * length items
+section-bound k Within over to bound i [] few none = omega arith
+section-bound k Within over to bound i (a ∷ items) few (more h each) =
+    let rest = section-bound k Within over to bound (suc i) items (omega arith) each in
+    let first = bound i a (omega arith) h in
+    let lines = length-append (line (k .keyword) (k .fields i a)) (section (k .keyword) (k .fields) (suc i) items) in
+    let words = ap length (k .first a items) ∙ length-append (k .word a) (k .words items) in
+    omega arith
 
 module _ (names ps fs : List ℕ) (sound : Sound-names names (length ps) (length fs)) where
   -- a line of one token a cell
@@ -28,30 +42,29 @@ module _ (names ps fs : List ℕ) (sound : Sound-names names (length ps) (length
       omega arith
 
   -- a keyword of four bytes, a name and a number
-  declarations-bound : (keyword : List ℕ) (i : ℕ) (arities : List ℕ) → length keyword ≡ 4 → i + length arities ≤ length ps + length fs
-      → Each (λ arity. arity ≤ maxArity) arities → length (declarations keyword names i arities) ≤ 39 * length arities
-  declarations-bound keyword i [] four few none = omega arith
-  declarations-bound keyword i (arity ∷ arities) four few (more h each) =
-      let ss : List (List ℕ) = symbolToken names i ∷ decimal arity ∷ [] in
-      let printed : Each Printed ss = more (symbol-printed names ps fs sound i (omega arith)) (more (arity-printed arity h) none) in
-      let first : length (line keyword ss) ≤ length keyword + 17 * 2 + 1 = line-bound keyword ss 2 printed refl in
-      let rest : length (declarations keyword names (suc i) arities) ≤ 39 * length arities
-      = declarations-bound keyword (suc i) arities four (omega arith) each in
-      rw (length-append (line keyword ss) (declarations keyword names (suc i) arities)) (omega arith)
-
-  clauses-bound : (cs : List Clause) → Each (WithinClause ps fs) cs → length (clauseLines names (length ps) cs) ≤ 17 * length (encodeClauses cs)
-  clauses-bound [] none = omega arith
-  clauses-bound (c ∷ cs) (more w each) =
-      let ts : List Term = c .head ∷ c .body in
-      let ss : List (List ℕ) = atomsTokens names (length ps) ts in
-      let first : length (line clause ss) ≤ 6 + 17 * length (encodeAtoms ts) + 1
-      = line-bound clause ss (length (encodeAtoms ts)) (atoms-printed names ps fs sound ts (more (w .head-atom) (w .body-atoms))) (atoms-tokens names ps fs sound ts) in
-      let rest : length (clauseLines names (length ps) cs) ≤ 17 * length (encodeClauses cs) = clauses-bound cs each in
-      let lines : length (clauseLines names (length ps) (c ∷ cs)) ≡ length (line clause ss) + length (clauseLines names (length ps) cs)
-      = length-append (line clause ss) (clauseLines names (length ps) cs) in
-      let words : length (encodeClauses (c ∷ cs)) ≡ suc (length (encodeAtoms ts) + length (encodeClauses cs))
-      = ap suc (ap length (sym (append-assoc (enc (c .head)) (encodeAtoms (c .body)) (encodeClauses cs))) ∙ length-append (encodeAtoms ts) (encodeClauses cs)) in
+  declaration-bound : (keyword : List ℕ) (i arity : ℕ) → length keyword ≡ 4 → i < length ps + length fs → arity ≤ maxArity
+      → length (line keyword (declarationFields names i arity)) ≤ 17 * 1 + 22
+  declaration-bound keyword i arity four few h =
+      let printed : Each Printed (declarationFields names i arity) = more (symbol-printed names ps fs sound i few) (more (arity-printed arity h) none) in
+      let bound = line-bound keyword (declarationFields names i arity) 2 printed refl in
       omega arith
+
+  declarations-bound : (keyword : List ℕ) (i : ℕ) (arities : List ℕ) → length keyword ≡ 4 → i + length arities ≤ length ps + length fs
+      → Each (λ arity. arity ≤ maxArity) arities → length (declarations keyword names i arities) ≤ 17 * length arities + 22 * length arities
+  declarations-bound keyword i arities four few each =
+      section-bound (declarationItems keyword names) (λ arity. arity ≤ maxArity) 22 (length ps + length fs)
+      (λ j arity l h. declaration-bound keyword j arity four l h) i arities few each
+
+  clause-bound : (c : Clause) → WithinClause ps fs c → length (line clause (atomsTokens names (length ps) (c .head ∷ c .body))) ≤ 17 * suc (length (encodeAtoms (c .head ∷ c .body))) + 0
+  clause-bound c w =
+      let ts : List Term = c .head ∷ c .body in
+      let bound : length (line clause (atomsTokens names (length ps) ts)) ≤ 6 + 17 * length (encodeAtoms ts) + 1
+      = line-bound clause (atomsTokens names (length ps) ts) (length (encodeAtoms ts)) (atoms-printed names ps fs sound ts (more (w .head-atom) (w .body-atoms))) (atoms-tokens names ps fs sound ts) in
+      omega arith
+
+  clauses-bound : (cs : List Clause) → Each (WithinClause ps fs) cs → length (clauseLines names (length ps) cs) ≤ 17 * length (encodeClauses cs) + 0 * length cs
+  clauses-bound cs each =
+      section-bound (clauseItems names (length ps)) (WithinClause ps fs) 0 (length cs) (λ n c l w. clause-bound c w) 0 cs (omega arith) each
 
   query-bound : (t : Term) (modes : List ℕ) → Atom ps fs t
       → length (line query (atomTokens names (length ps) modes (enc t))) ≤ 5 + 17 * length (enc t) + 1
@@ -83,8 +96,8 @@ written-length p names w sound =
     let d₂ : List ℕ = declarations func names (length ps) fs in
     let cs : List ℕ = clauseLines names (length ps) (p .clauses) in
     let q : List ℕ = line query (atomTokens names (length ps) modes (enc (p .goal))) in
-    let sum : length (textOf p names) ≡ length d₁ + length d₂ + length cs + length q
-    = length-append (d₁ ++ d₂ ++ cs) q ∙ rw (length-append (d₁ ++ d₂) cs, length-append d₁ d₂) in
+    let sum : length (textOf p names) ≡ length d₁ + (length d₂ + (length cs + length q))
+    = rw (length-append d₁ (d₂ ++ (cs ++ q)), length-append d₂ (cs ++ q), length-append cs q) in
     let words = encode-length p in
     omega (
       arith,

@@ -18,9 +18,11 @@ use Rattle.text_lines.specs.Lines.{fieldsOf}
 use Rattle.written_lines.specs.Tokens.{atomTokens, line}
 use Rattle.round_trips.proofs.Printed.{name-printed}
 use Rattle.round_trips.proofs.ReadNames.{Sound-names}
-use Rattle.round_trips.proofs.WrittenCells.{Mode, modesUpTo, declaredSoFar, words-behind, rowAt}
+use Rattle.round_trips.proofs.WrittenCells.{Mode, modesUpTo, declaredSymbols, rowAt}
 use Rattle.round_trips.proofs.WrittenAtoms.{TakesTo, take-atom, take-end}
 use Rattle.round_trips.proofs.WrittenTokens.{atom-printed}
+use Rattle.round_trips.proofs.Sections.{Section, countsIn, wordsBefore, words-behind, behindSections}
+use Rattle.round_trips.proofs.ReadSoFar.{predicatesOf, functionsOf}
 use Rattle.round_trips.proofs.WrittenLines.{ReadsOn, line-last}
 
 -- a mode is any or ground
@@ -39,33 +41,37 @@ modes-front modes (suc k) h =
 pub modes-all : (modes : List ℕ) (k : ℕ) → length modes ≡ k → modesUpTo modes k ≡ modes
 modes-all modes k e = rw (← e) (modes-front modes (length modes) (omega arith) ∙ take-length modes)
 
-module _ (names ps fs : List ℕ) (sound : Sound-names names (length ps) (length fs)) (n : ℕ) (ws : List ℕ) (t : Term) (ground : ℕ)
+-- behind the declarations and any other sections
+module _ (names ps fs : List ℕ) (sound : Sound-names names (length ps) (length fs)) (others : List Section) (t : Term) (ground : ℕ)
     (some : 0 < length ps) (a : Atom ps fs t) (numbered : Numbered 0 t) where
   abbrev modes : List ℕ
   modes = modesOf (after 0 t) ground
 
+  abbrev sections : List Section
+  sections = predicatesOf names ps ∷ functionsOf names (length ps) fs ∷ others
+
   -- what is read of the whole
   abbrev pub scenario : Scenario
-  scenario =
-      record { words = length ps ∷ length fs ∷ n ∷ ps ++ (fs ++ (ws ++ (enc t ++ after 0 t ∷ modes))); names = names }
+  scenario = record { words = countsIn sections ++ wordsBefore sections (enc t ++ after 0 t ∷ modes); names = names }
 
-  query-read : (at : ℕ) → fieldsOf (declaredSoFar names ps fs n ws) at (query ∷ atomTokens names (length ps) modes (enc t)) ≡ right (last scenario)
+  query-read : (at : ℕ) → fieldsOf (behindSections names sections) at (query ∷ atomTokens names (length ps) modes (enc t)) ≡ right (last scenario)
   query-read at =
       let m : (v : ℕ) → Mode true (getD modes v 0) = each-mode modes (modes-each (after 0 t) ground) in
       let r = rowAt modes 1 0 (length (enc t)) (after 0 t) (enc t) in
-      let taken : TakesTo (declaredSoFar names ps fs n ws) true (rowAt modes 0 0 0 0 []) (atomTokens names (length ps) modes (enc t)) r
+      let ws : List ℕ = wordsBefore others [] in
+      let taken : TakesTo (declaredSymbols names ps fs ws) true (rowAt modes 0 0 0 0 []) (atomTokens names (length ps) modes (enc t)) r
       = rw (append-nil (atomTokens names (length ps) modes (enc t)))
-      at (take-atom names ps fs n ws true modes sound m t 0 0 0 [] [] r a numbered (omega arith) refl
-      (take-end names ps fs n ws true modes sound m 1 (length (enc t)) (after 0 t) (enc t) (omega arith))) in
+      at (take-atom names ps fs ws true modes sound m t 0 0 0 [] [] r a numbered (omega arith) refl
+      (take-end names ps fs ws true modes sound m 1 (length (enc t)) (after 0 t) (enc t) (omega arith))) in
       rw (
         lt-ltb 0 (length ps) some,
         taken (at + 5),
         modes-all modes (after 0 t) (modes-length (after 0 t) ground),
-        append-assoc (ps ++ (fs ++ ws)) (enc t) (after 0 t ∷ modes),
-        words-behind ps fs ws (enc t ++ after 0 t ∷ modes),
+        append-assoc (wordsBefore sections []) (enc t) (after 0 t ∷ modes),
+        words-behind sections [] (enc t ++ after 0 t ∷ modes),
       )
 
-  pub reads-query : ReadsOn (declaredSoFar names ps fs n ws) (line query (atomTokens names (length ps) modes (enc t))) scenario
+  pub reads-query : ReadsOn (behindSections names sections) (line query (atomTokens names (length ps) modes (enc t))) scenario
   reads-query =
-      line-last (declaredSoFar names ps fs n ws) query (atomTokens names (length ps) modes (enc t)) (name-printed query refl .bytes)
+      line-last (behindSections names sections) query (atomTokens names (length ps) modes (enc t)) (name-printed query refl .bytes)
       (atom-printed names ps fs sound modes t a) scenario query-read

@@ -1,26 +1,26 @@
 -- Clause and query lines: the text that stands in the room is the text with the line.
-use Prim.Native.Nat.{ℕ, suc, _+_, _-_, _*_, _^_, _≤_, _<_}
+use Prim.Native.Nat.{ℕ, _+_, _-_, _*_, _<_}
 use mathlib.Core.Path.{_≡_, refl, sym, ap, _∙_}
 use mathlib.Core.List.{List, [], _∷_, _++_, append-assoc}
 use native.Mathlib.Omega.{arith}
-use lib.ListN.{length, getD, set, length-append, List·getD-append}
-use Rattle.program.specs.Limits.{maxWords, maxDeclared}
+use lib.ListN.{length, set, length-append, List·getD-append}
+use Rattle.program.specs.Limits.{maxWords}
 use Rattle.text.specs.Room.{inRoom}
-use Rattle.text.specs.Name.{nameBytes, maxNames}
+use Rattle.text.specs.Name.{nameBytes}
 use Rattle.text.proofs.Rooms.{set-behind, set-within}
 use Rattle.cells.specs.declared.state.Counts.{Counts}
 use Rattle.cells.specs.declared.state.Progress.{Progress}
 use Rattle.cells.specs.declared.cells.Cells.the-variants.{Fault as CellsFault, Done}
-use Rattle.declarations.specs.declared.lined.Lined.the-variants.{Fault as LinedFault, More, Last}
-use Rattle.cells.specs.TextSoFar.{Read, wrong, right, next}
+use Rattle.declarations.specs.declared.lined.Lined.the-variants.{More, Last}
+use Rattle.cells.specs.TextSoFar.{Read, wrong, right, next, nothing}
 use Rattle.cells.specs.Cells.{Row}
 use Rattle.text_lines.specs.Lines.{withClause, withGoal}
-use Rattle.cells.specs.Room.{SymbolsHeld, Stands, CellsAs, textSoFar, rowOf}
-use Rattle.declarations.specs.Held.{Holds, LinedAs, Limited, moreOf}
+use Rattle.cells.specs.Room.{SymbolsHeld, Stands, CellsAs, rowOf}
+use Rattle.declarations.specs.Held.{linesIn, textSoFar, Holds, LinedAs, Limited, moreOf}
 use Rattle.text_lines.specs.Goal.{GoalPut, lastOf}
 
--- the three counts over the room that was left for them
-pub counts-put : (room : ℕ) (words xs : List ℕ) (p f c : ℕ) → words ≡ inRoom room (0 ∷ 0 ∷ 0 ∷ xs)
+-- the counts over the room that was left for them
+pub counts-put : (room : ℕ) (words xs : List ℕ) (p f c : ℕ) → words ≡ inRoom room (nothing .lines ++ xs)
     → set (set (set words 0 p) 1 f) 2 c ≡ inRoom room (p ∷ f ∷ c ∷ xs)
 counts-put room words xs p f c e =
     ap (λ (l : List ℕ). set (set (set l 0 p) 1 f) 2 c) e
@@ -60,21 +60,21 @@ module _ (ns ws : List ℕ) (c : Counts) (names hashes arities words : List ℕ)
       }
 
   -- room for the body length
-  pub length-room : set words (c .words) 0 ≡ inRoom maxWords ((0 ∷ 0 ∷ 0 ∷ ws) ++ 0 ∷ [])
+  pub length-room : set words (c .words) 0 ≡ inRoom maxWords ((nothing .lines ++ ws) ++ 0 ∷ [])
   length-room =
-      let n : c .words ≡ length (0 ∷ 0 ∷ 0 ∷ ws) = omega (arith, holds .place) in
-      rw (n, holds .word-room) (set-behind maxWords (0 ∷ 0 ∷ 0 ∷ ws) 0)
+      let n : c .words ≡ length (nothing .lines ++ ws) = omega (arith, holds .place) in
+      rw (n, holds .word-room) (set-behind maxWords (nothing .lines ++ ws) 0)
 
-  pub length-place : c .words + 1 ≡ length ((0 ∷ 0 ∷ 0 ∷ ws) ++ 0 ∷ [])
-  length-place = omega (arith, length-append (0 ∷ 0 ∷ 0 ∷ ws) (0 ∷ []), holds .place)
+  pub length-place : c .words + 1 ≡ length ((nothing .lines ++ ws) ++ 0 ∷ [])
+  length-place = omega (arith, length-append (nothing .lines ++ ws) (0 ∷ []), holds .place)
 
-  module _ (o : Read Row) (p : Progress) (modes words′ : List ℕ) (through : Through o p ((0 ∷ 0 ∷ 0 ∷ ws) ++ 0 ∷ []) modes words′) where
+  module _ (o : Read Row) (p : Progress) (modes words′ : List ℕ) (through : Through o p ((nothing .lines ++ ws) ++ 0 ∷ []) modes words′) where
     -- the body length in the room that was left for it
-    length-put : (m : ℕ) → set words′ (c .words) m ≡ inRoom maxWords (0 ∷ 0 ∷ 0 ∷ ws ++ m ∷ through .out)
+    length-put : (m : ℕ) → set words′ (c .words) m ≡ inRoom maxWords (nothing .lines ++ (ws ++ m ∷ through .out))
     length-put m =
-        let n : c .words ≡ length (0 ∷ 0 ∷ 0 ∷ ws) = omega (arith, holds .place) in
-        let e = through .stands .word-room ∙ ap (inRoom maxWords) (append-assoc (0 ∷ 0 ∷ 0 ∷ ws) (0 ∷ []) (through .out)) in
-        rw (n, e) (set-within maxWords (0 ∷ 0 ∷ 0 ∷ ws) 0 (through .out) m)
+        let n : c .words ≡ length (nothing .lines ++ ws) = omega (arith, holds .place) in
+        let e = through .stands .word-room ∙ ap (inRoom maxWords) (append-assoc (nothing .lines ++ ws) (0 ∷ []) (through .out)) in
+        rw (n, e) (set-within maxWords (nothing .lines ++ ws) 0 (through .out) m)
 
     pub lined-clause : (m : ℕ) (words″ : List ℕ) → m ≡ p .atoms - 1 → words″ ≡ set words′ (c .words) m
         → LinedAs names hashes arities words″ (More (record { predicates = c .predicates; functions = c .functions; clauses = c .clauses + 1; words = p .words }))
@@ -82,8 +82,8 @@ module _ (ns ws : List ℕ) (c : Counts) (names hashes arities words : List ℕ)
     lined-clause m words″ e f =
         let c′ : Counts = record { predicates = c .predicates; functions = c .functions; clauses = c .clauses + 1; words = p .words } in
         let size = length-append ws (m ∷ through .out) in
-        let size′ = length-append ((0 ∷ 0 ∷ 0 ∷ ws) ++ 0 ∷ []) (through .out) in
-        let size″ = length-append (0 ∷ 0 ∷ 0 ∷ ws) (0 ∷ []) in
+        let size′ = length-append ((nothing .lines ++ ws) ++ 0 ∷ []) (through .out) in
+        let size″ = length-append (nothing .lines ++ ws) (0 ∷ []) in
         rw (through .is, sym e) (
           c′,
           refl,
@@ -98,25 +98,25 @@ module _ (ns ws : List ℕ) (c : Counts) (names hashes arities words : List ℕ)
         )
 
 -- the goal's cells, its variable count and its modes, one behind another
-goal-shape : (ws out ms : List ℕ) (k : ℕ) → ((0 ∷ 0 ∷ 0 ∷ ws) ++ out ++ k ∷ []) ++ ms ≡ 0 ∷ 0 ∷ 0 ∷ (ws ++ out ++ k ∷ ms)
-goal-shape ws out ms k = ap (λ (l : List ℕ). 0 ∷ 0 ∷ 0 ∷ l) (append-assoc (ws ++ out) (k ∷ []) ms)
+goal-shape : (ws out ms : List ℕ) (k : ℕ) → ((nothing .lines ++ ws) ++ out ++ k ∷ []) ++ ms ≡ nothing .lines ++ (ws ++ out ++ k ∷ ms)
+goal-shape ws out ms k = ap (λ (l : List ℕ). nothing .lines ++ l) (append-assoc (ws ++ out) (k ∷ []) ms)
 
-module _ (c : Counts) {p : Progress} {ws ms out modes words : List ℕ} (st : Stands p ms out (0 ∷ 0 ∷ 0 ∷ ws) modes words) where
+module _ (c : Counts) {p : Progress} {ws ms out modes words : List ℕ} (st : Stands p ms out (nothing .lines ++ ws) modes words) where
   abbrev goalWords : List ℕ
-  goalWords = c .predicates ∷ c .functions ∷ c .clauses ∷ ws ++ out ++ p .variables ∷ ms
+  goalWords = linesIn c ++ (ws ++ out ++ p .variables ∷ ms)
 
   pub goal-words : (words₁ words₂ words₃ : List ℕ) → words₁ ≡ set words (p .words) (p .variables)
       → ((xs : List ℕ) → words₁ ≡ inRoom maxWords xs → p .words + 1 ≡ length xs → words₂ ≡ inRoom maxWords (xs ++ ms))
-      → ((xs : List ℕ) → words₂ ≡ inRoom maxWords (0 ∷ 0 ∷ 0 ∷ xs) → words₃ ≡ inRoom maxWords (c .predicates ∷ c .functions ∷ c .clauses ∷ xs))
+      → ((xs : List ℕ) → words₂ ≡ inRoom maxWords (nothing .lines ++ xs) → words₃ ≡ inRoom maxWords (linesIn c ++ xs))
       → words₃ ≡ inRoom maxWords goalWords
   goal-words words₁ words₂ words₃ e modal counted =
-      let front = (0 ∷ 0 ∷ 0 ∷ ws) ++ out ++ p .variables ∷ [] in
+      let front = (nothing .lines ++ ws) ++ out ++ p .variables ∷ [] in
       let one : words₁ ≡ inRoom maxWords front =
       e ∙ ap (λ (l : List ℕ). set l (p .words) (p .variables)) (st .word-room)
-      ∙ ap (λ (n : ℕ). set (inRoom maxWords ((0 ∷ 0 ∷ 0 ∷ ws) ++ out)) n (p .variables)) (st .place)
-      ∙ set-behind maxWords ((0 ∷ 0 ∷ 0 ∷ ws) ++ out) (p .variables) in
+      ∙ ap (λ (n : ℕ). set (inRoom maxWords ((nothing .lines ++ ws) ++ out)) n (p .variables)) (st .place)
+      ∙ set-behind maxWords ((nothing .lines ++ ws) ++ out) (p .variables) in
       let size : p .words + 1 ≡ length front =
-      omega (arith, st .place, length-append ((0 ∷ 0 ∷ 0 ∷ ws) ++ out) (p .variables ∷ [])) in
+      omega (arith, st .place, length-append ((nothing .lines ++ ws) ++ out) (p .variables ∷ [])) in
       counted (ws ++ out ++ p .variables ∷ ms) (modal front one size ∙ ap (inRoom maxWords) (goal-shape ws out ms (p .variables)))
 
   pub goal-count : p .words + 1 + p .variables ≡ length goalWords

@@ -1,10 +1,10 @@
 -- A line by its keyword: the first field, and what the line comes to by its kind.
-use Prim.Native.Nat.{ℕ, _+_, _-_, _≤_, _<_}
+use Prim.Native.Nat.{ℕ, _+_, _-_, _≤_}
 use mathlib.Core.Path.{_≡_, refl, sym, ap, _∙_}
 use mathlib.Core.Bool.{Bool, true, false, cond}
-use mathlib.Core.List.{List, [], _∷_}
+use mathlib.Core.List.{List, _∷_}
 use native.Mathlib.Omega.{arith}
-use lib.ListN.{length, take, drop, length-take}
+use lib.ListN.{length, drop, length-take}
 use Rattle.program.specs.Reply.{illFormed}
 use Rattle.program.specs.Lists.{between}
 use Rattle.text.specs.Line.{upTo, parts, behind, tab}
@@ -16,7 +16,7 @@ use Rattle.text_lines.specs.declared.keyword.Kind.the-variants.{Pred, Fu
 use Rattle.declarations.specs.declared.lined.Lined.{Lined}
 use Rattle.declarations.specs.declared.lined.Lined.the-variants.{Fault, More, Last}
 use Rattle.text_lines.specs.Keyword.{pred, func, clause, query, kindOf}
-use Rattle.cells.specs.TextSoFar.{TextSoFar, Read, wrong}
+use Rattle.cells.specs.TextSoFar.{TextSoFar, wrong}
 use Rattle.declarations.specs.Declarations.{declaring, predLine, funcLine}
 use Rattle.text_lines.specs.Lines.{clauseLine, queryLine, lineOf, fieldsOf}
 use Rattle.declarations.specs.Held.{moreOf, Goes}
@@ -29,26 +29,21 @@ KindIs s Clause = s ≡ clause
 KindIs s Query = s ≡ query
 KindIs s Other = Unit {0}
 
+-- a line whose first field is this keyword is of its kind, and any other of another
+kind-or : (s keyword : List ℕ) (k rest : Kind) → (s ≡ keyword → KindIs s k) → KindIs s rest → KindIs s (cond (same s keyword) k rest)
+kind-or s keyword k rest this other = go (same s keyword) refl
+  where
+    go : (t : Bool) → same s keyword ≡ t → KindIs s (cond t k rest)
+    go true e = this (same-equal s keyword e)
+    go false e = other
+
 -- a line of a kind begins with its keyword
 pub kind-is : (s : List ℕ) → KindIs s (kindOf s)
-kind-is s = first (same s pred) refl
-  where
-    fourth : (t : Bool) → same s query ≡ t → KindIs s (cond t Query Other)
-    fourth true e = same-equal s query e
-    fourth false e = tt
-
-    third : (t : Bool) → same s clause ≡ t → KindIs s (cond t Clause (cond (same s query) Query Other))
-    third true e = same-equal s clause e
-    third false e = fourth (same s query) refl
-
-    second : (t : Bool) → same s func ≡ t → KindIs s (cond t Func (cond (same s clause) Clause (cond (same s query) Query Other)))
-    second true e = same-equal s func e
-    second false e = third (same s clause) refl
-
-    first : (t : Bool) → same s pred ≡ t
-        → KindIs s (cond t Pred (cond (same s func) Func (cond (same s clause) Clause (cond (same s query) Query Other))))
-    first true e = same-equal s pred e
-    first false e = second (same s func) refl
+kind-is s =
+    kind-or s pred Pred _ (λ e. e)
+    (kind-or s func Func _ (λ e. e)
+    (kind-or s clause Clause _ (λ e. e)
+    (kind-or s query Query Other (λ e. e) tt)))
 
 -- the first field ends at e
 module _ (line : List ℕ) (e : ℕ) (ends : e ≡ 0 + length (upTo tab (drop 0 line))) where

@@ -8,11 +8,12 @@ use Rattle.text.specs.Room.{inRoom}
 use Rattle.cells.specs.TextSoFar.{Read, right, next, Scenario, Line, last}
 use Rattle.cells.specs.declared.state.Counts.{Counts}
 use Rattle.cells.specs.declared.state.Progress.{Progress}
+use Rattle.declarations.specs.Held.{linesIn}
 
 abbrev pub lastOf : Read Scenario → Read Line
 lastOf o = next o (λ s. right (last s))
 
 -- the words of the whole program stand in the room
 pub record GoalPut (c : Counts) (p : Progress) (ws ms out words : List ℕ) (count : ℕ) : Type 0 where
-  pub all : words ≡ inRoom maxWords (c .predicates ∷ c .functions ∷ c .clauses ∷ ws ++ out ++ p .variables ∷ ms)
-  pub counted : count ≡ length (c .predicates ∷ c .functions ∷ c .clauses ∷ ws ++ out ++ p .variables ∷ ms)
+  pub all : words ≡ inRoom maxWords (linesIn c ++ (ws ++ out ++ p .variables ∷ ms))
+  pub counted : count ≡ length (linesIn c ++ (ws ++ out ++ p .variables ∷ ms))

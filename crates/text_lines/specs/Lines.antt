@@ -1,48 +1,34 @@
 -- The lines of a text: declarations, clauses, the query.
 use Prim.Native.Nat.{ℕ, _+_, _-_}
-use mathlib.Core.Bool.{true, false, cond, _&&_}
+use mathlib.Core.Bool.{true, false, cond}
 use mathlib.Core.List.{List, [], _∷_, _++_}
 use lib.ListN.{length}
 use lib.Dec.{ltb}
-use Rattle.program.specs.Limits.{maxDeclared}
 use Rattle.program.specs.Reply.{tooSoon, outOfRange, follows, illFormed}
 use Rattle.text.specs.Line.{parts, tab}
 use Rattle.text_lines.specs.declared.keyword.Kind.{Kind}
 use Rattle.text_lines.specs.declared.keyword.Kind.the-variants.{Pred, Func, Clause, Query, Other}
 use Rattle.text_lines.specs.Keyword.{clause, query, kindOf}
-use Rattle.cells.specs.TextSoFar.{Read, wrong, right, next, TextSoFar, Scenario, Line, more, last}
-use Rattle.declarations.specs.Declarations.{predLine, funcLine}
+use Rattle.cells.specs.TextSoFar.{Read, wrong, right, next, predSection, clauseSection, TextSoFar, count, withLine, symbolsOf, Scenario, Line, more, last}
+use Rattle.declarations.specs.Declarations.{opens, predLine, funcLine}
 use Rattle.cells.specs.Cells.{Row, noCells, cellsOf}
 
-abbrev pub withClause : TextSoFar → Row → TextSoFar
-withClause t r =
-    record {
-      predicates = t .predicates;
-      functions = t .functions;
-      clauses = t .clauses + 1;
-      names = t .names;
-      words = t .words ++ (r .atoms - 1) ∷ r .out;
-    }
-
 -- "C clauses: a body length m (0 to 16), the head atom, m body atoms"
+abbrev pub withClause : TextSoFar → Row → TextSoFar
+withClause t r = withLine t clauseSection (t .names) ((r .atoms - 1) ∷ r .out)
+
 abbrev pub clauseLine : TextSoFar → ℕ → List (List ℕ) → Read TextSoFar
 clauseLine t at ss =
-    cond (ltb 0 (t .predicates) && ltb (t .clauses) maxDeclared)
-    (next (cellsOf t false noCells (at + length clause) ss) (λ r. right (withClause t r)))
-    (wrong outOfRange at)
+    opens t clauseSection at (next (cellsOf (symbolsOf t) false noCells (at + length clause) ss) (λ r. right (withClause t r)))
 
+-- the counts, what the lines say, and "the top goal: one atom, its variable count k, then k modes (0 any, 1 ground)"
 abbrev pub withGoal : TextSoFar → Row → Scenario
-withGoal t r =
-    record {
-      words = t .predicates ∷ t .functions ∷ t .clauses ∷ t .words ++ r .out ++ r .variables ∷ r .modes;
-      names = t .names;
-    }
+withGoal t r = record { words = t .lines ++ (t .words ++ r .out ++ r .variables ∷ r .modes); names = t .names }
 
--- "the top goal: one atom, its variable count k, then k modes (0 any, 1 ground)"
 abbrev pub queryLine : TextSoFar → ℕ → List (List ℕ) → Read Scenario
 queryLine t at ss =
-    cond (ltb 0 (t .predicates))
-    (next (cellsOf t true noCells (at + length query) ss) (λ r. right (withGoal t r)))
+    cond (ltb 0 (count t predSection))
+    (next (cellsOf (symbolsOf t) true noCells (at + length query) ss) (λ r. right (withGoal t r)))
     (wrong outOfRange at)
 
 -- "A line has a wrong form if its first field is no keyword, if its kind stands after a later kind, or if a declaration has not exactly three fields"

@@ -9,17 +9,17 @@ use declarations::lined::Lined;
 use program::reply::OUT_OF_RANGE;
 use text::name::NAME_BYTES;
 ghost use mathlib.Core.Path.{_≡_};
-ghost use mathlib.Core.List.{List, _∷_, _++_};
+ghost use mathlib.Core.List.{List, _++_};
 ghost use Prim.Native.Nat.{ℕ, _+_, _^_, _≤_, _<_};
 ghost use lib.ListN.{length};
 ghost use Rattle.terms.specs.Cells.{variables};
-ghost use Rattle.program.specs.Limits.{maxWords};
 ghost use Rattle.text.specs.Line.{behind, tab};
 ghost use Rattle.text.specs.Room.{inRoom};
 ghost use Rattle.text_lines.specs.Keyword.{clause, query};
 ghost use Rattle.text_lines.specs.Lines.{clauseLine, queryLine};
-ghost use Rattle.cells.specs.Room.{Roomy, Stands, textSoFar};
-ghost use Rattle.declarations.specs.Held.{Holds, LinedAs, moreOf, Limited, Goes};
+ghost use Rattle.cells.specs.Room.{Roomy, Stands};
+ghost use Rattle.cells.specs.TextSoFar.{nothing};
+ghost use Rattle.declarations.specs.Held.{linesIn, textSoFar, Holds, LinedAs, moreOf, Limited, Goes};
 ghost use Rattle.text_lines.specs.Goal.{lastOf, GoalPut};
 
 fn narrow(x: usize) -> u16
@@ -99,7 +99,7 @@ fn put_modes(words: &mut [u16], at: usize, modes: &[u16], count: usize)
 // The counts, which are known when all lines are read.
 fn put_counts(words: &mut [u16], c: Counts)
     requires { ⌜ Limited c ⌝ }
-    ensures { λ _. ⌜ ((room : ℕ) (xs : List ℕ) → now (words .entry) ≡ inRoom room (0 ∷ 0 ∷ 0 ∷ xs) → now (words .exit) ≡ inRoom room (c .predicates ∷ c .functions ∷ c .clauses ∷ xs)) ⌝ }
+    ensures { λ _. ⌜ ((room : ℕ) (xs : List ℕ) → now (words .entry) ≡ inRoom room (nothing .lines ++ xs) → now (words .exit) ≡ inRoom room (linesIn c ++ xs)) ⌝ }
 {
     put(words, 0, narrow(c.predicates));
     put(words, 1, narrow(c.functions));
@@ -109,7 +109,7 @@ fn put_counts(words: &mut [u16], c: Counts)
 // What stands behind the goal's cells, and the counts before all. How many words there are.
 fn put_goal(words: &mut [u16], modes: &[u16], p: Progress, c: Counts) -> usize
     requires { ⌜ Limited c × (length (now modes) ≡ variables) × (p .words < 2 ^ 32) × (p .variables ≤ p .words) ⌝ }
-    ensures { λ r. ⌜ ((ws ms out : List ℕ) → Stands p ms out (0 ∷ 0 ∷ 0 ∷ ws) (now (modes .entry)) (now (words .entry)) → GoalPut c p ws ms out (now (words .exit)) r) ⌝ }
+    ensures { λ r. ⌜ ((ws ms out : List ℕ) → Stands p ms out (nothing .lines ++ ws) (now (modes .entry)) (now (words .entry)) → GoalPut c p ws ms out (now (words .exit)) r) ⌝ }
 {
     let at = p.words;
     let count = p.variables;

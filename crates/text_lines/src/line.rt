@@ -14,9 +14,9 @@ ghost use mathlib.Core.List.{List};
 ghost use Prim.Native.Nat.{ℕ, _+_, _^_, _<_};
 ghost use lib.ListN.{length};
 ghost use Rattle.text.specs.Line.{parts, tab};
-ghost use Rattle.cells.specs.Room.{Roomy, textSoFar};
+ghost use Rattle.cells.specs.Room.{Roomy};
 ghost use Rattle.text_lines.specs.Lines.{fieldsOf};
-ghost use Rattle.declarations.specs.Held.{Holds, LinedAs, Limited, Goes};
+ghost use Rattle.declarations.specs.Held.{textSoFar, Holds, LinedAs, Limited, Goes};
 
 // The line that begins at `base` of the text.
 pub fn read_line(

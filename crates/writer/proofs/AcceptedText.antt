@@ -6,6 +6,7 @@ use lib.ListN.{length, getD, take, drop}
 use Rattle.terms.specs.Cells.{enc}
 use Rattle.program.specs.Program.{Program}
 use Rattle.program.specs.Within.{after, modesOf}
+use Rattle.directory.specs.Layout.{predicatesStart}
 use Rattle.directory.specs.Said.{said, Accepted}
 use Rattle.directory.specs.From.{Clauses-from, Goal-from}
 use Rattle.directory.proofs.AcceptedWords.{said-within, predicate-count, function-count, clause-count, predicates-are, functions-within, functions-are, clauses-within, clauses-cut, goalPart}
@@ -21,38 +22,38 @@ module _ (words : List ℕ) (a : Accepted words) (p f n : ℕ) (p-is : p ≡ get
 
   -- the arities, as the code has them
   abbrev predicates : List ℕ
-  predicates = take (3 + p - 3) (drop 3 words)
+  predicates = take (predicatesStart + p - predicatesStart) (drop predicatesStart words)
 
   abbrev functions : List ℕ
-  functions = take (3 + p + f - (3 + p)) (drop (3 + p) words)
+  functions = take (predicatesStart + p + f - (predicatesStart + p)) (drop (predicatesStart + p) words)
 
-  pub middle-is : 3 + p ≡ 3 + length (program .predicates)
-  middle-is = ap (λ (k : ℕ). 3 + k) (p-is ∙ predicate-count words a)
+  pub middle-is : predicatesStart + p ≡ predicatesStart + length (program .predicates)
+  middle-is = ap (λ (k : ℕ). predicatesStart + k) (p-is ∙ predicate-count words a)
 
-  pub start-is : 3 + p + f ≡ 3 + p + length (program .functions)
-  start-is = ap (λ (k : ℕ). 3 + p + k) (f-is ∙ function-count words a)
+  pub start-is : predicatesStart + p + f ≡ predicatesStart + p + length (program .functions)
+  start-is = ap (λ (k : ℕ). predicatesStart + p + k) (f-is ∙ function-count words a)
 
   pub predicates-said : predicates ≡ program .predicates
-  predicates-said = predicates-are words a (3 + p) middle-is
+  predicates-said = predicates-are words a (predicatesStart + p) middle-is
 
   pub functions-said : functions ≡ program .functions
-  functions-said = functions-are words a (3 + p) middle-is (3 + p + f) start-is
+  functions-said = functions-are words a (predicatesStart + p) middle-is (predicatesStart + p + f) start-is
 
-  pub middle-within : 3 + p ≤ length words
-  middle-within = functions-within words a (3 + p) middle-is
+  pub middle-within : predicatesStart + p ≤ length words
+  middle-within = functions-within words a (predicatesStart + p) middle-is
 
-  pub start-within : 3 + p + f ≤ length words
-  start-within = clauses-within words a (3 + p) middle-is (3 + p + f) start-is
+  pub start-within : predicatesStart + p + f ≤ length words
+  start-within = clauses-within words a (predicatesStart + p) middle-is (predicatesStart + p + f) start-is
 
   pub named-parts : (names : List ℕ) → Named names (length (program .predicates)) (length (program .functions)) → Named names (length predicates) (length functions)
   named-parts names h = rw (predicates-said, functions-said) h
 
-  abbrev pub clauses-to-come : Clauses-from words (3 + p + f) predicates functions n
+  abbrev pub clauses-to-come : Clauses-from words (predicatesStart + p + f) predicates functions n
   clauses-to-come =
       record {
         clauses = program .clauses;
         rest = goalPart program;
-        cut = clauses-cut words a (3 + p) middle-is (3 + p + f) start-is;
+        cut = clauses-cut words a (predicatesStart + p) middle-is (predicatesStart + p + f) start-is;
         within = rw (predicates-said, functions-said) (said-within words a .clauses-within);
         many = sym (n-is ∙ clause-count words a);
       }
@@ -69,7 +70,9 @@ module _ (words : List ℕ) (a : Accepted words) (p f n : ℕ) (p-is : p ≡ get
       }
 
   pub text-said : (names : List ℕ)
-      → ((declarations pred names 0 predicates ++ declarations func names (length predicates) functions) ++ clauseLines names (length predicates) (program .clauses))
-      ++ line query (atomTokens names (length predicates) (modesOf (after 0 (program .goal)) (program .ground)) (enc (program .goal)))
+      → declarations pred names 0 predicates
+      ++ (declarations func names (length predicates) functions
+      ++ (clauseLines names (length predicates) (program .clauses)
+      ++ line query (atomTokens names (length predicates) (modesOf (after 0 (program .goal)) (program .ground)) (enc (program .goal)))))
       ≡ textOf program names
   text-said names = rw (predicates-said, functions-said)

@@ -22,9 +22,9 @@ use Rattle.writer.specs.Names.{namesOf}
 abbrev pub textOf : Program → List ℕ → List ℕ
 textOf p names =
     declarations pred names 0 (p .predicates)
-    ++ declarations func names (length (p .predicates)) (p .functions)
-    ++ clauseLines names (length (p .predicates)) (p .clauses)
-    ++ line query (atomTokens names (length (p .predicates)) (modesOf (after 0 (p .goal)) (p .ground)) (enc (p .goal)))
+    ++ (declarations func names (length (p .predicates)) (p .functions)
+    ++ (clauseLines names (length (p .predicates)) (p .clauses)
+    ++ line query (atomTokens names (length (p .predicates)) (modesOf (after 0 (p .goal)) (p .ground)) (enc (p .goal)))))
 
 abbrev pub written : List ℕ → Found Program → Read (List ℕ)
 written names (fault number place) = wrong number place

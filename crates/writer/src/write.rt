@@ -1,5 +1,6 @@
 // From an encoded program with names to scenario text.
 use crate::names::names_reply;
+use directory::layout::PREDICATES_START;
 use program::reply::ACCEPTED;
 use program::reply::NO_ROOM;
 use program::reply::Reply;
@@ -17,17 +18,15 @@ ghost use Rattle.written_lines.specs.Walked.{Named};
 ghost use Rattle.writer.specs.Write.{textOf, replyOf, textIn, Writes};
 ghost use Rattle.writer.specs.Roomed.{roomed};
 
-const FIRST_ARITY: usize = 3;
-
 // The text of an accepted program whose names are sound; the place behind it, or one past the room.
 fn put_text(text: &mut [u8], words: &[u16], names: &[u8]) -> usize
     requires { ⌜ (Accepted (now words)) × (Named (now names) (length (said (now words) .predicates)) (length (said (now words) .functions))) ⌝ }
     ensures { λ r. ⌜ Put (textOf (said (now (words .entry))) (now (names .entry))) (now (text .entry)) (now (text .exit)) 0 r ⌝ }
 {
-    let middle = FIRST_ARITY + wide(words[0]);
+    let middle = PREDICATES_START + wide(words[0]);
     let start = middle + wide(words[1]);
     let count = wide(words[2]);
-    let predicates = &words[FIRST_ARITY..middle];
+    let predicates = &words[PREDICATES_START..middle];
     let functions = &words[middle..start];
     let first = put_declarations(text, 0, b"pred", names, 0, predicates);
     let second = put_declarations(text, first, b"func", names, predicates.len(), functions);

@@ -14,8 +14,8 @@ use Rattle.directory.proofs.Cuts.{word-behind, nth-drop, nth-take, each-nth}
 use Rattle.directory.proofs.ClauseWalk.{body-length}
 use Rattle.text_lines.specs.Keyword.{clause}
 use Rattle.written_lines.specs.Tokens.{atomTokens, atomsTokens, behindTabs, line}
-use Rattle.written_lines.specs.Lines.{clauseLines}
-use Rattle.written_lines.proofs.LineTexts.{tabs-append}
+use Rattle.written_lines.specs.Lines.{clauseFields, clauseLines}
+use Rattle.written_lines.proofs.LineTexts.{section-one, tabs-append}
 
 -- the words of the parts from number i on come next
 pub record To-come {A : Type 0} (encoded : List A → List ℕ) (words : List ℕ) (parts : List A) (rest : List ℕ) (i at : ℕ) : Type 0 where
@@ -73,12 +73,6 @@ clause-atoms words at predicates functions a m e =
       many = let q = e ∙ body-length words at predicates functions a in omega arith;
     }
 
-clauses-append : (names : List ℕ) (n : ℕ) (l m : List Clause) → clauseLines names n (l ++ m) ≡ clauseLines names n l ++ clauseLines names n m
-clauses-append names n [] m = refl
-clauses-append names n (c ∷ l) m =
-    ap (λ (t : List ℕ). line clause (atomsTokens names n (c .head ∷ c .body)) ++ t) (clauses-append names n l m)
-    ∙ sym (append-assoc (line clause (atomsTokens names n (c .head ∷ c .body))) (clauseLines names n l) (clauseLines names n m))
-
 module _ (words : List ℕ) (start : ℕ) (predicates functions : List ℕ) (count : ℕ) (a : Clauses-from words start predicates functions count) (i at : ℕ)
     (l : To-come encodeClauses words (a .clauses) (a .rest) i at) (h : i < count) where
   abbrev clauseAt : (c : Clause) × Nth (a .clauses) i c
@@ -103,6 +97,4 @@ module _ (words : List ℕ) (start : ℕ) (predicates functions : List ℕ) (cou
   pub next-clause-text : (names : List ℕ) (n : ℕ)
       → clauseLines names n (take i (a .clauses)) ++ line clause (atomsTokens names n (clauseAt .0 .head ∷ clauseAt .0 .body)) ≡ clauseLines names n (take (suc i) (a .clauses))
   next-clause-text names n =
-      sym (ap (clauseLines names n) (nth-take (clauseAt .1))
-      ∙ clauses-append names n (take i (a .clauses)) (clauseAt .0 ∷ [])
-      ∙ ap (λ (t : List ℕ). clauseLines names n (take i (a .clauses)) ++ t) (append-nil (line clause (atomsTokens names n (clauseAt .0 .head ∷ clauseAt .0 .body)))))
+      sym (ap (clauseLines names n) (nth-take (clauseAt .1)) ∙ section-one clause (clauseFields names n) 0 (take i (a .clauses)) (clauseAt .0))

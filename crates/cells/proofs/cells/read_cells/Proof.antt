@@ -8,7 +8,7 @@ use Rattle.program.specs.Lists.{between}
 use Rattle.text.specs.Line.{upTo, tab}
 use Rattle.text.proofs.Cuts.{part-within}
 use Rattle.cells.specs.Cells.{lookOf}
-use Rattle.cells.specs.Room.{textSoFar, rowOf}
+use Rattle.cells.specs.Room.{symbolsIn, rowOf}
 use Rattle.cells.proofs.Rows.{Turning, begins, rest-over, rest-wrong, said-on, rest-none, taken-wrong, as-wrong, as-right, complete-atoms}
 use Rattle.cells.proofs.cells.read_cells.Statement.{statement}
 use Rattle.cells.proofs.cells.read_cells.Tie as tie
@@ -29,7 +29,7 @@ loop-holds c =
       slow = omega arith;
       word-length = refl;
       mode-length = refl;
-      says = λ ns ws front k w n m. begins (textSoFar (a .c) ns ws) (a .query) (a .line .now) (a .from) (a .base) front (a .words .now) (a .modes .now) (a .count) w n m;
+      says = λ ns ws front k w n m. begins (symbolsIn (a .c) ns ws) (a .query) (a .line .now) (a .from) (a .base) front (a .words .now) (a .modes .now) (a .count) w n m;
     }
 
 is-over-requires : tie.Need-is-over-requires Inv-loop μ-loop
@@ -49,7 +49,7 @@ returns c =
     let a = c .before .before .before .before .before .before .before .before .before .before .args in
     let l = c .before .before .before .loop in (
       λ ns ws front k w n m. let s = l .inv .says ns ws front k w n m in as-wrong front (l .modes) (l .words) _
-          (s .rest ∙ rest-over (textSoFar (a .c) ns ws) (a .query) (a .line .now) (a .base) (l .at) (l .at + 1 + length (upTo tab (drop (l .at + 1) (a .line .now)))) (omega arith) refl
+          (s .rest ∙ rest-over (symbolsIn (a .c) ns ws) (a .query) (a .line .now) (a .base) (l .at) (l .at + 1 + length (upTo tab (drop (l .at + 1) (a .line .now)))) (omega arith) refl
           (rowOf (l .p) (s .ms) (s .out)) (sym (c .before .is-over .ensures) ∙ c .if1 .taken)),
       tt,
     )
@@ -96,7 +96,7 @@ returns-2 c =
     let l = c .before .before .before .before .before .before .before .before .before .before .before .before .before .before .before .loop in (
       λ ns ws front k w n m. let s = l .inv .says ns ws front k w n m in
           let r = rowOf (l .p) (s .ms) (s .out) in
-          let t = textSoFar (a .c) ns ws in
+          let t = symbolsIn (a .c) ns ws in
           let e = c .before .before .before .before .before .before .before .before .before .before .before .find .result in
           as-wrong front _ _ _
           (s .rest ∙ rest-wrong t (a .query) (a .line .now) (a .base) (l .at) e (omega arith) (c .before .before .before .before .before .before .before .before .before .before .before .find .ensures) r (c .before .number .given .0 .0)
@@ -132,7 +132,7 @@ loop-again c =
       word-length = c .before .before .before .before .before .before .before .take .kept .1 .1 .1 .1 .1 .1 .1 .0 ∙ l .inv .word-length;
       mode-length = c .before .before .before .before .before .before .before .take .kept .1 .1 .1 .1 .1 .1 .1 .1 .0 ∙ l .inv .mode-length;
       says = λ ns ws front k w n m. let s = l .inv .says ns ws front k w n m in
-          said-on (textSoFar (a .c) ns ws) (a .query) (a .line .now) (a .base) front (c .before .before .before .before .before .before .before .take .last .1 .1 .1 .1 .1 .1 .1 .0) (c .before .before .before .before .before .before .before .take .last .1 .1 .1 .1 .1 .1 .1 .1 .0) q (l .at) e
+          said-on (symbolsIn (a .c) ns ws) (a .query) (a .line .now) (a .base) front (c .before .before .before .before .before .before .before .take .last .1 .1 .1 .1 .1 .1 .1 .0) (c .before .before .before .before .before .before .before .take .last .1 .1 .1 .1 .1 .1 .1 .1 .0) q (l .at) e
           (omega arith) (c .before .before .before .before .before .before .before .before .before .before .before .find .ensures) s (sym (c .before .before .before .before .before .before .before .before .before .before .before .before .before .is-over .ensures) ∙ c .before .before .before .before .before .before .before .before .before .before .before .before .if1 .left)
           (rw (c .before .next .given .1) at (c .before .before .before .before .before .before .before .take .ensures .0 ns ws (s .ms) (s .out) front k (s .stands)));
     }
@@ -152,7 +152,7 @@ returns-3 c =
     let l = c .before .before .before .loop in
     let done = sym (c .before .is-complete .ensures) ∙ c .if2 .taken in (
       λ ns ws front k w n m. let s = l .inv .says ns ws front k w n m in as-right front (l .modes) (l .words) _
-          (s .rest ∙ rest-none (textSoFar (a .c) ns ws) (a .query) (a .line .now) (a .base) (l .at) (rowOf (l .p) (s .ms) (s .out)) (omega arith) ∙ rw done) (s .stands),
+          (s .rest ∙ rest-none (symbolsIn (a .c) ns ws) (a .query) (a .line .now) (a .base) (l .at) (rowOf (l .p) (s .ms) (s .out)) (omega arith) ∙ rw done) (s .stands),
       (omega (arith, l .inv .slow, l .inv .within), complete-atoms (l .p) done, l .inv .small .atoms, l .inv .small .variables),
     )
 
@@ -171,7 +171,7 @@ returns-4 c =
     let l = c .before .before .before .loop in
     let done = sym (c .before .is-complete .ensures) ∙ c .if2 .left in (
       λ ns ws front k w n m. let s = l .inv .says ns ws front k w n m in as-wrong front (l .modes) (l .words) _
-          (s .rest ∙ rest-none (textSoFar (a .c) ns ws) (a .query) (a .line .now) (a .base) (l .at) (rowOf (l .p) (s .ms) (s .out)) (omega arith) ∙ rw done),
+          (s .rest ∙ rest-none (symbolsIn (a .c) ns ws) (a .query) (a .line .now) (a .base) (l .at) (rowOf (l .p) (s .ms) (s .out)) (omega arith) ∙ rw done),
       tt,
     )
 

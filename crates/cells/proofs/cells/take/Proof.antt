@@ -1,7 +1,7 @@
 -- `cells::cells::take` meets its contract: each answer of a look is the definition's, and its cell is written behind the words. Assumes nothing.
 use mathlib.Core.Path.{_∙_, ap}
 use Rattle.cells.specs.declared.state.Progress.{Progress}
-use Rattle.cells.specs.Room.{textSoFar}
+use Rattle.cells.specs.Room.{symbolsIn}
 use Rattle.cells.proofs.HeldSymbols.{lookOf-stands}
 use Rattle.cells.proofs.Takes.{taken-fault, taken-symbol, taken-variable}
 use borrow.Author.Needs.{needs}
@@ -44,7 +44,7 @@ same-length c = search needs
 returns : tie.Need-returns
 returns c =
     let a = c .before .before .before .before .before .before .before .before .before .before .before .args in (
-      λ ns ws ms out front k st. taken-fault (textSoFar (a .c) ns ws) (a .query) (a .s .now) st (c .before .number .given .0 .0)
+      λ ns ws ms out front k st. taken-fault (symbolsIn (a .c) ns ws) (a .query) (a .s .now) st (c .before .number .given .0 .0)
           (lookOf-stands ns ws (a .c) (a .names .now) (a .hashes .now) (a .arities .now) (c .before .before .before .before .before .before .before .before .before .before .before .pre .0) k (a .query) (a .p) ms out (a .modes .now) (a .s .now) (c .before .before .before .look-at .result) (st .mode-room) (c .before .before .before .look-at .ensures (k .hashed))
           ∙ c .before .number .given .1),
       tt,
@@ -59,7 +59,7 @@ same-length-3 c = search needs
 returns-2 : tie.Need-returns-2
 returns-2 c =
     let a = c .before .before .before .before .before .before .before .before .before .before .before .before .before .before .before .before .args in (
-      λ ns ws ms out front k st. taken-symbol (textSoFar (a .c) ns ws) (a .query) (a .s .now) st (c .before .before .before .before .before .before .word .given .0 .0) (c .before .before .before .before .before .before .word .given .0 .1 .0) (c .after-symbol .result) (c .before .before .before .put .last .0)
+      λ ns ws ms out front k st. taken-symbol (symbolsIn (a .c) ns ws) (a .query) (a .s .now) st (c .before .before .before .before .before .before .word .given .0 .0) (c .before .before .before .before .before .before .word .given .0 .1 .0) (c .after-symbol .result) (c .before .before .before .put .last .0)
           (lookOf-stands ns ws (a .c) (a .names .now) (a .hashes .now) (a .arities .now) (c .before .before .before .before .before .before .before .before .before .before .before .before .before .before .before .before .pre .0) k (a .query) (a .p) ms out (a .modes .now) (a .s .now) (c .before .before .before .before .before .before .before .before .look-at .result) (st .mode-room) (c .before .before .before .before .before .before .before .before .look-at .ensures (k .hashed))
           ∙ c .before .before .before .before .before .before .word .given .1) (c .after-symbol .ensures .0) (c .before .before .before .put .ensures),
       (c .after-symbol .ensures .1, ap (λ (q : Progress). q .words) (c .after-symbol .ensures .0)),
@@ -74,7 +74,7 @@ same-length-5 c = search needs
 returns-3 : tie.Need-returns-3
 returns-3 c =
     let a = c .before .before .before .before .before .before .before .before .before .before .before .before .before .before .before .before .before .before .before .before .before .args in (
-      λ ns ws ms out front k st. taken-variable (textSoFar (a .c) ns ws) (a .query) (a .s .now) st (c .before .before .before .before .before .before .before .before .before .before .before .number2 .given .0 .0) (c .before .before .before .before .before .before .before .before .before .before .before .number2 .given .0 .1 .0) (c .after-variable .result) (c .before .before .before .before .before .before .before .before .variable-cell .result) (c .before .before .before .meet .last .0) (c .before .before .before .before .before .before .before .put2 .last .0)
+      λ ns ws ms out front k st. taken-variable (symbolsIn (a .c) ns ws) (a .query) (a .s .now) st (c .before .before .before .before .before .before .before .before .before .before .before .number2 .given .0 .0) (c .before .before .before .before .before .before .before .before .before .before .before .number2 .given .0 .1 .0) (c .after-variable .result) (c .before .before .before .before .before .before .before .before .variable-cell .result) (c .before .before .before .meet .last .0) (c .before .before .before .before .before .before .before .put2 .last .0)
           (lookOf-stands ns ws (a .c) (a .names .now) (a .hashes .now) (a .arities .now) (c .before .before .before .before .before .before .before .before .before .before .before .before .before .before .before .before .before .before .before .before .before .pre .0) k (a .query) (a .p) ms out (a .modes .now) (a .s .now) (c .before .before .before .before .before .before .before .before .before .before .before .before .before .look-at .result) (st .mode-room) (c .before .before .before .before .before .before .before .before .before .before .before .before .before .look-at .ensures (k .hashed))
           ∙ c .before .before .before .before .before .before .before .before .before .before .before .number2 .given .1) (c .after-variable .ensures .0) (c .before .before .before .before .before .before .before .before .variable-cell .ensures) (c .before .before .before .before .before .before .before .put2 .ensures) (c .before .before .before .meet .ensures),
       (c .after-variable .ensures .1, ap (λ (q : Progress). q .words) (c .after-variable .ensures .0)),

@@ -74,7 +74,7 @@ returns c =
     let line = a .line .now in
     let name = between line (declaring + 1) (a .middle) in
     let arity = between line (a .middle + 1) (length line) in (
-      λ ns ws h none same first more. lined-fault ns ws (a .c) (a .next) (a .names .now) (a .hashes .now) (a .arities .now) (a .words .now) name (symbolOf ns (a .first) (a .count) (a .base + declaring) name arity) (c .before .number .given .0 .0) (c .before .number .given .0 .1 .0)
+      λ ns ws section h none grown first more. lined-fault ns ws (a .c) section (a .names .now) (a .hashes .now) (a .arities .now) (a .words .now) name (symbolOf ns (a .first) (a .count) (a .base + declaring) name arity) (c .before .number .given .0 .0) (c .before .number .given .0 .1 .0)
           (sym (symbolOf-kept ns ws (a .c) (a .names .now) (a .hashes .now) (a .arities .now) (c .before .before .before .before .before .before .before .before .before .before .before .before .before .pre .0) (h .kept) (a .first) (a .count) (a .base + declaring) name arity first)
           ∙ sym (c .before .before .before .symbol-of .ensures (λ k l m. h .kept .hashed k (omega arith) (omega arith))) ∙ c .before .number .given .1),
       tt,
@@ -98,9 +98,9 @@ returns-2 c =
     let line = a .line .now in
     let name = between line (declaring + 1) (a .middle) in
     let arity = between line (a .middle + 1) (length line) in (
-      λ ns ws h none same first more. lined-symbol ns ws (a .c) (a .next) (a .names .now) (a .hashes .now) (a .arities .now) (a .words .now)
+      λ ns ws section h none grown first more. lined-symbol ns ws (a .c) (a .next) (a .names .now) (a .hashes .now) (a .arities .now) (a .words .now)
           (c .before .before .before .before .before .before .before .before .add-symbol .last .1 .1 .1 .1 .0) (c .before .before .before .before .before .before .before .before .add-symbol .last .1 .1 .1 .1 .1 .0) (c .before .before .before .before .before .before .before .before .add-symbol .last .1 .1 .1 .1 .1 .1 .0) (c .before .before .before .before .before .before .before .before .add-symbol .last .1 .1 .1 .1 .1 .1 .1 .0)
-          name (a .first + a .count) (c .before .before .before .before .before .before .before .before .before .before .before .before .before .before .before .before .before .before .before .before .before .before .before .before .before .before .before .pre .0) h first more (c .before .before .before .before .before .before .before .before .before .before .before .before .before .before .before .before .before .before .before .before .before .before .before .before .before .before .before .pre .4) none same (c .before .before .before .before .before .before .before .before .before .before .before .before .before .before .before .before .before .before .before .before .before .before .before .before .before .before .before .pre .6)
+          name (a .first + a .count) (c .before .before .before .before .before .before .before .before .before .before .before .before .before .before .before .before .before .before .before .before .before .before .before .before .before .before .before .pre .0) h first more (c .before .before .before .before .before .before .before .before .before .before .before .before .before .before .before .before .before .before .before .before .before .before .before .before .before .before .before .pre .4) none section grown (c .before .before .before .before .before .before .before .before .before .before .before .before .before .before .before .before .before .before .before .before .before .before .before .before .before .before .before .pre .6)
           (symbolOf ns (a .first) (a .count) (a .base + declaring) name arity) (c .before .before .before .before .before .before .before .before .before .before .before .before .before .before .before .arity .given .0 .0)
           (sym (symbolOf-kept ns ws (a .c) (a .names .now) (a .hashes .now) (a .arities .now) (c .before .before .before .before .before .before .before .before .before .before .before .before .before .before .before .before .before .before .before .before .before .before .before .before .before .before .before .pre .0) (h .kept) (a .first) (a .count) (a .base + declaring) name arity first)
           ∙ sym (c .before .before .before .before .before .before .before .before .before .before .before .before .before .before .before .before .before .symbol-of .ensures (λ k l m. h .kept .hashed k (omega arith) (omega arith))) ∙ c .before .before .before .before .before .before .before .before .before .before .before .before .before .before .before .arity .given .1)

@@ -4,8 +4,9 @@ use native.Mathlib.Omega.{arith}
 use borrow.Author.Tests.{eq-eqb, ne-eqb, not-true, not-false}
 use Rattle.text.specs.Line.{behind, tab}
 use Rattle.declarations.specs.Declarations.{declaring}
-use Rattle.cells.specs.Room.{textSoFar}
-use Rattle.declarations.proofs.DeclaredLines.{func-wrong, lined-wrong, open-few}
+use Rattle.cells.specs.TextSoFar.{funcSection}
+use Rattle.declarations.specs.Held.{textSoFar}
+use Rattle.declarations.proofs.DeclaredLines.{declaration-wrong, lined-wrong, open-few}
 use borrow.Author.Needs.{needs}
 use Rattle.declarations.proofs.declaration.func_line.Statement.{statement}
 use Rattle.declarations.proofs.declaration.func_line.Tie as tie
@@ -47,7 +48,7 @@ returns-3 : tie.Need-returns-3
 returns-3 c =
     let f = rw (c .enum-told .given .1) at (c .before .before .two-fields .ensures) in
     let a = c .before .before .before .before .before .before .before .before .args in
-    (λ ns ws h. lined-wrong (a .names .now) (a .hashes .now) (a .arities .now) (a .words .now) _ (func-wrong (textSoFar (a .c) ns ws) (a .base) (behind tab (a .line .now) declaring) f), tt)
+    (λ ns ws h. lined-wrong (a .names .now) (a .hashes .now) (a .arities .now) (a .words .now) _ (declaration-wrong (textSoFar (a .c) ns ws) funcSection (a .c .predicates) (a .base) (behind tab (a .line .now) declaring) f), tt)
 
 same-length : tie.Need-same-length
 same-length c = search needs
@@ -64,7 +65,7 @@ same-length-4 c = search needs
 returns-4 : tie.Need-returns-4
 returns-4 c =
     let f = rw (c .before .before .before .before .before .before .before .before .before .before .before .before .before .before .before .before .before .before .before .before .middle .given .1) at (c .before .before .before .before .before .before .before .before .before .before .before .before .before .before .before .before .before .before .before .before .before .before .two-fields .ensures) in (
-      λ ns ws h. rw (f .2, eq-eqb _ _ (c .before .before .before .before .before .before .before .before .before .before .before .before .before .before .before .before .before .if1 .left), sym (c .before .before .before .before .before .before .before .before .before .before .before .before .before .before .before .before .is-open .ensures) ∙ not-false _ (c .before .before .before .before .before .before .before .before .before .before .before .before .before .before .before .if2 .left)) (c .before .before .before .before .before .before .before .before .add-declared .ensures .0 ns ws h (omega arith) refl (omega arith) (omega arith)),
+      λ ns ws h. rw (f .2, eq-eqb _ _ (c .before .before .before .before .before .before .before .before .before .before .before .before .before .before .before .before .before .if1 .left), sym (c .before .before .before .before .before .before .before .before .before .before .before .before .before .before .before .before .is-open .ensures) ∙ not-false _ (c .before .before .before .before .before .before .before .before .before .before .before .before .before .before .before .if2 .left)) (c .before .before .before .before .before .before .before .before .add-declared .ensures .0 ns ws funcSection h (omega arith) refl (omega arith) (omega arith)),
       c .before .before .before .before .before .before .before .before .add-declared .ensures .1,
     )
 

@@ -7,7 +7,7 @@ use lib.ListN.{length}
 use Rattle.program.specs.Lists.{between}
 use Rattle.text.specs.Line.{parts, tab}
 use Rattle.text_lines.specs.Lines.{fieldsOf}
-use Rattle.cells.specs.Room.{textSoFar}
+use Rattle.declarations.specs.Held.{textSoFar}
 use Rattle.reader.proofs.TextLines.{Reading, nothing-read, line-within, line-length, text-none, text-wrong, text-more, text-last, text-follows, lined-is-wrong, lined-is-more, lined-is-last, found-wrong, found-right}
 use Rattle.reader.proofs.all_lines.read_lines.Statement.{statement}
 use Rattle.reader.proofs.all_lines.read_lines.Tie as tie

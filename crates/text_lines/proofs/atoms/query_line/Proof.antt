@@ -1,13 +1,14 @@
 -- `text_lines::atoms::query_line` meets its contract. Assumes nothing.
 use Prim.Native.Nat.{_+_, _-_}
 use mathlib.Core.Path.{refl, sym}
-use mathlib.Core.List.{_∷_}
+use mathlib.Core.List.{_++_}
 use native.Mathlib.Omega.{arith}
 use mathlib.Core.Bool.{true}
 use borrow.Author.Tests.{lt-ltb, le-ltb}
 use Rattle.text.specs.Line.{behind, tab}
 use Rattle.cells.specs.Cells.{noCells, cellsOf}
-use Rattle.cells.specs.Room.{textSoFar}
+use Rattle.cells.specs.Room.{symbolsIn}
+use Rattle.cells.specs.TextSoFar.{nothing}
 use Rattle.text_lines.proofs.AtomLines.{cells-fault, cells-done, lined-goal}
 use borrow.Author.Needs.{needs}
 use Rattle.text_lines.proofs.atoms.query_line.Statement.{statement}
@@ -48,9 +49,9 @@ same-length c = search needs
 returns-2 : tie.Need-returns-2
 returns-2 c =
     let a = c .before .before .before .before .before .before .before .before .before .before .before .before .before .before .before .before .args in (
-      λ ns ws h f. let e = cells-fault (0 ∷ 0 ∷ 0 ∷ ws) (c .before .before .before .before .before .before .read-cells .last .1 .1 .1 .1 .1 .1 .1 .1 .1 .0) (c .before .before .before .before .before .before .read-cells .last .1 .1 .1 .1 .1 .1 .1 .1 .0)
-          (cellsOf (textSoFar (a .c) ns ws) true noCells (a .base + a .from) (behind tab (a .line .now) (a .from))) (c .before .number .given .0 .0) (c .before .number .given .0 .1 .0)
-          (rw (c .before .number .given .1) at (c .before .before .before .before .before .before .read-cells .ensures .0 ns ws (0 ∷ 0 ∷ 0 ∷ ws) (h .kept) (h .word-room) (omega (arith, h .place)) refl)) in
+      λ ns ws h f. let e = cells-fault (nothing .lines ++ ws) (c .before .before .before .before .before .before .read-cells .last .1 .1 .1 .1 .1 .1 .1 .1 .1 .0) (c .before .before .before .before .before .before .read-cells .last .1 .1 .1 .1 .1 .1 .1 .1 .0)
+          (cellsOf (symbolsIn (a .c) ns ws) true noCells (a .base + a .from) (behind tab (a .line .now) (a .from))) (c .before .number .given .0 .0) (c .before .number .given .0 .1 .0)
+          (rw (c .before .number .given .1) at (c .before .before .before .before .before .before .read-cells .ensures .0 ns ws (nothing .lines ++ ws) (h .kept) (h .word-room) (omega (arith, h .place)) refl)) in
           rw (lt-ltb 0 (a .c .predicates) (omega arith), sym f, e),
       tt,
     )
@@ -62,9 +63,9 @@ returns-3 : tie.Need-returns-3
 returns-3 c =
     let a = c .before .before .before .before .before .before .before .before .before .before .before .before .before .before .before .before .before .before .before .before .before .before .args in
     let p = c .before .before .before .before .before .before .before .p .given .0 .0 in (
-      λ ns ws h f. let e = cells-done (0 ∷ 0 ∷ 0 ∷ ws) (c .before .before .before .before .before .before .before .before .before .before .before .before .read-cells .last .1 .1 .1 .1 .1 .1 .1 .1 .1 .0) (c .before .before .before .before .before .before .before .before .before .before .before .before .read-cells .last .1 .1 .1 .1 .1 .1 .1 .1 .0)
-          (cellsOf (textSoFar (a .c) ns ws) true noCells (a .base + a .from) (behind tab (a .line .now) (a .from))) p
-          (rw (c .before .before .before .before .before .before .before .p .given .1) at (c .before .before .before .before .before .before .before .before .before .before .before .before .read-cells .ensures .0 ns ws (0 ∷ 0 ∷ 0 ∷ ws) (h .kept) (h .word-room) (omega (arith, h .place)) refl)) in
+      λ ns ws h f. let e = cells-done (nothing .lines ++ ws) (c .before .before .before .before .before .before .before .before .before .before .before .before .read-cells .last .1 .1 .1 .1 .1 .1 .1 .1 .1 .0) (c .before .before .before .before .before .before .before .before .before .before .before .before .read-cells .last .1 .1 .1 .1 .1 .1 .1 .1 .0)
+          (cellsOf (symbolsIn (a .c) ns ws) true noCells (a .base + a .from) (behind tab (a .line .now) (a .from))) p
+          (rw (c .before .before .before .before .before .before .before .p .given .1) at (c .before .before .before .before .before .before .before .before .before .before .before .before .read-cells .ensures .0 ns ws (nothing .lines ++ ws) (h .kept) (h .word-room) (omega (arith, h .place)) refl)) in
           rw (lt-ltb 0 (a .c .predicates) (omega arith), sym f)
           (lined-goal ns ws (a .c) (a .names .now) (a .hashes .now) (a .arities .now) (c .before .before .before .put-goal .last .0) (c .before .before .before .before .before .before .before .before .before .before .before .before .before .before .before .before .before .before .before .before .before .before .pre .1) (h .kept) _ p (e .ms) (e .out) (e .is)
           (c .before .before .before .put-goal .result) _ (c .before .before .before .put-goal .ensures ws (e .ms) (e .out) (e .stands)) refl),

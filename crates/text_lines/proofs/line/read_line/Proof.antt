@@ -3,7 +3,7 @@ use Prim.Native.Nat.{_+_}
 use mathlib.Core.Path.{sym, _∙_}
 use native.Mathlib.Omega.{arith}
 use lib.ListN.{length}
-use Rattle.cells.specs.Room.{textSoFar}
+use Rattle.declarations.specs.Held.{textSoFar}
 use Rattle.text_lines.proofs.LineKinds.{first-within, pred-length, func-length, clause-length, query-length, line-pred, line-func, line-clause, line-query, line-other, goes-less}
 use borrow.Author.Needs.{needs}
 use Rattle.text_lines.proofs.line.read_line.Statement.{statement}

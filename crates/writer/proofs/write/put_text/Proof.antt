@@ -135,7 +135,7 @@ returns c =
     let q = at-put-query .put-query .ensures (goal-to-come words a (at-wide .wide .result) (at-wide2 .wide2 .result) (at-wide3 .wide3 .result) (at-wide .wide .ensures .0) (at-wide2 .wide2 .ensures .0) (at-wide3 .wide3 .ensures .0) (at-put-clauses .put-clauses .result .at) (w .to-come)) in
     subst (λ (t : List ℕ). Put t (s .args .text .now) (at-put-query .put-query .last .0) 0 (at-put-query .put-query .result))
     (text-said words a (at-wide .wide .result) (at-wide2 .wide2 .result) (at-wide3 .wide3 .result) (at-wide .wide .ensures .0) (at-wide2 .wide2 .ensures .0) (at-wide3 .wide3 .ensures .0) (s .args .names .now))
-    (put-append (put-append (put-append (c .before .before .before .before .before .before .before .before .before .before .before .before .before .before .before .put-declarations .ensures) (c .before .before .before .before .before .before .before .before .before .before .put-declarations2 .ensures)) (w .put)) q)
+    (put-append (c .before .before .before .before .before .before .before .before .before .before .before .before .before .before .before .put-declarations .ensures) (put-append (c .before .before .before .before .before .before .before .before .before .before .put-declarations2 .ensures) (put-append (w .put) q)))
 
 pub put-text-spec : {M : Type 1} → statement M
 put-text-spec =
