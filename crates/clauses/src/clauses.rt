@@ -17,7 +17,7 @@ ghost use Rattle.steps.specs.Steps.{RowsIn, Writable, Stepped};
 ghost use Rattle.steps.specs.Unifiers.{Room};
 ghost use Rattle.ends.specs.Ends.{Scratch};
 ghost use Rattle.clauses.specs.Clauses.{MiddlesAsked, PastPlaces};
-ghost use Rattle.ends.specs.Keeping.{Keeps};
+ghost use Rattle.ends.specs.Keeping.{KeepsMarks};
 ghost use Rattle.joining.specs.KeptAnswers.{KeepsAnswers};
 
 // The middle places of a clause, whose body atoms are first..last.
@@ -85,13 +85,13 @@ pub fn clause<'a>(
     k: usize,
 ) -> usize
     requires { ⌜ HeadAsked (now words) (now dir) (now table) (now heads) (at .since) (at .rows) k × Writable (now table) (now buckets) n (at .room) × (at .rows ≤ n)
-        × Scratch (now answers) (now found) × Keeps (now words) (now dir) (now table) (now kept) (at .rows) n
+        × Scratch (now answers) (now found) × KeepsMarks (now words) (now dir) (now table) (now kept) (at .rows) n
         × KeepsAnswers (now words) (now dir) (now table) (now answered) (at .rows) × Room (now unifiers) ⌝ }
     ensures { λ r. ⌜ Scratch (now (answers .exit)) (now (found .exit))
         × ((w : HeadAsked (now (words .entry)) (now (dir .entry)) (now (table .entry)) (now (heads .entry)) (at .since) (at .rows) k)
         → Stepped (w .situation .p) (keysOf (now (table .entry)) (at .rows)) (at .number) (at .room) n (now (table .entry)) (now (buckets .entry))
         (Keyed (w .situation .p) (NewIn modes (w .situation .p) (RowsIn (w .situation .p) (keysOf (now (table .entry)) (at .since))) (RowsIn (w .situation .p) (keysOf (now (table .entry)) (at .rows))) k)) r (now (table .exit)) (now (buckets .exit)))
-        × (r ≤ at .room → Keeps (now (words .entry)) (now (dir .entry)) (now (table .exit)) (now (kept .exit)) (at .rows) r)
+        × (r ≤ at .room → KeepsMarks (now (words .entry)) (now (dir .entry)) (now (table .exit)) (now (kept .exit)) (at .rows) r)
         × (r ≤ at .room → KeepsAnswers (now (words .entry)) (now (dir .entry)) (now (table .exit)) (now (answered .exit)) (at .rows)) ⌝ }
 {
     let room = at.room;

@@ -4,8 +4,8 @@ use ends::ends::head_marks;
 use ends::heads::at_head;
 use ends::keep::KEPT_ROWS;
 use ends::keep::KEPT_SET;
-use ends::keep::keep;
-use ends::keep::new_marks;
+use rows::keptset::keep_masks;
+use rows::keptset::take_kept;
 use rows::zeros::clear;
 use steps::place::Round;
 use terms::walk::narrow;
@@ -18,7 +18,7 @@ ghost use Rattle.steps.specs.Situation.{HeadAsked};
 ghost use Rattle.steps.specs.Steps.{Writable, Stepped};
 ghost use Rattle.steps.specs.Unifiers.{HeadNotes};
 ghost use Rattle.ends.specs.Ends.{WithHead, Scratch};
-ghost use Rattle.ends.specs.Keeping.{keptVars, Keeps};
+ghost use Rattle.ends.specs.Keeping.{keptVars, KeepsMarks};
 ghost use Rattle.joining.specs.KeptAnswers.{KeepsAnswers};
 
 // A clause whose marks are kept: those that are kept go to the call rows that they have not gone to yet, and the new ones to all.
@@ -38,14 +38,14 @@ pub fn end_kept<'a>(
     k: usize,
 ) -> usize
     requires { ⌜ HeadAsked (now words) (now dir) (now table) (now heads) (at .since) (at .rows) k × Writable (now table) (now buckets) n (at .room) × (at .rows ≤ n)
-        × Scratch (now answers) (now found) × Keeps (now words) (now dir) (now table) (now kept) (at .rows) n
+        × Scratch (now answers) (now found) × KeepsMarks (now words) (now dir) (now table) (now kept) (at .rows) n
         × KeepsAnswers (now words) (now dir) (now table) (now answered) (at .rows)
         × (getD (now dir) (clauseVars + k) 0 ≤ keptVars) × HeadNotes (now words) (now dir) k (now unifiers) ⌝ }
     ensures { λ r. ⌜ Scratch (now (answers .exit)) (now (found .exit))
         × ((w : HeadAsked (now (words .entry)) (now (dir .entry)) (now (table .entry)) (now (heads .entry)) (at .since) (at .rows) k)
         → Stepped (w .situation .p) (keysOf (now (table .entry)) (at .rows)) (at .number) (at .room) n (now (table .entry)) (now (buckets .entry))
         (WithHead (w .situation .p) (keysOf (now (table .entry)) (at .since)) (keysOf (now (table .entry)) (at .rows)) k) r (now (table .exit)) (now (buckets .exit)))
-        × (r ≤ at .room → Keeps (now (words .entry)) (now (dir .entry)) (now (table .exit)) (now (kept .exit)) (at .rows) r)
+        × (r ≤ at .room → KeepsMarks (now (words .entry)) (now (dir .entry)) (now (table .exit)) (now (kept .exit)) (at .rows) r)
         × (r ≤ at .room → KeepsAnswers (now (words .entry)) (now (dir .entry)) (now (table .exit)) (now (answered .exit)) (at .rows)) ⌝ }
 {
     let before = at.rows;
@@ -68,7 +68,7 @@ pub fn end_kept<'a>(
         unifiers,
     );
     let mut marks = 0;
-    if new_marks(kept, k, found) {
+    if take_kept(kept, KEPT_SET, k, found) {
         marks = all;
     }
     let from = Round {
@@ -95,7 +95,7 @@ pub fn end_kept<'a>(
         marks,
         unifiers,
     );
-    keep(found, k, kept);
+    keep_masks(found, KEPT_SET, k, kept);
     clear(found, KEPT_SET);
     kept[KEPT_ROWS + k] = narrow(before);
     rows

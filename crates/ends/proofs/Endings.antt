@@ -6,9 +6,10 @@ use native.Mathlib.Nat.{le-refl}
 use mathlib.Core.Path.{_≡_, refl}
 use mathlib.Core.Logic.{_⊎_, inl, inr, ⊎-elim}
 use mathlib.Core.List.{List, [], List·Memᴰ, List·Memᴰ·not-nil}
-use lib.ListN.{length, getD, set, take, drop, replicate}
+use lib.ListN.{length, getD, set, replicate}
 use Rattle.terms.specs.Term.{Term}
 use Rattle.marks.specs.Pass.{Pass}
+use Rattle.program.specs.Lists.{between}
 use Rattle.program.specs.Program.{Nth, Clause, Program}
 use Rattle.program.specs.Shapes.{shapes}
 use Rattle.program.specs.Limits.{masks}
@@ -17,6 +18,7 @@ use Rattle.directory.specs.Layout.{clauseVars}
 use Rattle.directory.specs.Directory.{predicateOf}
 use Rattle.rows.specs.Rows.{keysOf}
 use Rattle.rows.specs.MaskSet.{setWords, InSet}
+use Rattle.rows.specs.KeptSets.{masksIn, Gained, Unkept, things, knownOf}
 use Rattle.table.specs.Rules.{call, solution}
 use Rattle.table.specs.Keys.{rowKey}
 use Rattle.table.specs.Steps.{on-head}
@@ -28,9 +30,9 @@ use Rattle.steps.specs.Since.{SinceIn}
 use Rattle.steps.specs.Heads.{HeadMark, Collected, Solved, solved, FoundOn}
 use Rattle.ends.specs.AtHead.{HeadGives}
 use Rattle.ends.specs.Ends.{AtEnd, WithHead}
-use Rattle.ends.specs.Keeping.{keptVars, keptMasks, keptSet, keptRows, knownOf, GoneTo, Keeping, Gained, Unkept}
+use Rattle.ends.specs.Keeping.{keptVars, keptSet, GoneTo, KeepingMarks}
 use Rattle.ends.proofs.HeadMarks.{EndsBy, keys-within, all-new, mark-below, found-result, found-holds, found-all, ends-solved, late-found}
-use Rattle.ends.proofs.KeptMarks.{reached-known-or-new, reached-earlier, keeping-stays, kept-or-new, gained-marked, keeping-gained, in-part, few-masks, kept-holds}
+use Rattle.ends.proofs.KeptMarks.{reached-known-or-new, reached-earlier, marks-stay, kept-or-new, gained-marked, marks-gained, in-part, few-masks, kept-holds}
 
 -- known marks with new call rows, or other marks with all call rows
 at-kept-end : (p : Program) (known ks₀ ks : List ℕ) → ((key : ℕ) → List·Memᴰ key known → List·Memᴰ key ks₀) → (k key : ℕ)
@@ -109,16 +111,16 @@ module _ (words dir table heads : List ℕ) (since rows k : ℕ) (w : HeadAsked 
           (row, (N, new-on-head hc (all-new p (RowsIn p (keysOf table from)) (RowsIn p (keysOf table rows)) (λ r o. List·Memᴰ·not-nil (rw first at (o .1))) reached), s, C, (called .0, λ o. List·Memᴰ·not-nil (o .1)), ends), e)
 
 -- a clause whose marks are kept: `found` has the marks of rows that are not known, and `new` those of them that are not kept
-module _ (words dir table heads : List ℕ) (since rows k : ℕ) (w : HeadAsked words dir table heads since rows k) (kept : List ℕ) {ks : List ℕ} (s : Keeping (w .situation .p) table kept rows ks)
-    (few : getD dir (clauseVars + k) 0 ≤ keptVars) (first end : ℕ) (is-first : first ≡ keptSet * k) (is-end : end ≡ first + keptSet) (known : ℕ) (early : known ≤ knownOf kept k)
-    (found new : List ℕ) (marked : Collected (HeadMark (w .situation .p) table known rows k (length (w .clause .c .body))) (replicate setWords 0) found) (unkept : Unkept kept k found new) where
+module _ (words dir table heads : List ℕ) (since rows k : ℕ) (w : HeadAsked words dir table heads since rows k) (kept : List ℕ) {ks : List ℕ} (s : KeepingMarks (w .situation .p) table kept rows ks)
+    (few : getD dir (clauseVars + k) 0 ≤ keptVars) (first end : ℕ) (is-first : first ≡ keptSet * k) (is-end : end ≡ first + keptSet) (known : ℕ) (early : known ≤ knownOf keptSet kept k)
+    (found new : List ℕ) (marked : Collected (HeadMark (w .situation .p) table known rows k (length (w .clause .c .body))) (replicate setWords 0) found) (unkept : Unkept kept (keptSet * k) keptSet found new) where
   abbrev q : Program
   q = w .situation .p
 
   abbrev known-part : List ℕ
-  known-part = take (end - first) (drop first kept)
+  known-part = between kept first end
 
-  found-few : (m : ℕ) → InSet found m → m < keptMasks
+  found-few : (m : ℕ) → InSet found m → m < masksIn keptSet
   found-few m i =
       omega (
         arith,
@@ -132,12 +134,12 @@ module _ (words dir table heads : List ℕ) (since rows k : ℕ) (w : HeadAsked 
       let f = found-all words dir table heads since rows k w known rows (le-refl rows) found marked marks e in
       record {
         few = f .few;
-        within = rw (unkept .size) (f .within);
+        within = rw (unkept .as-long) (f .within);
         below = λ m i. f .below m (unkept .members m .0 i .0);
         result = λ m i. f .result m (unkept .members m .0 i .0);
       }
 
-  pub new-none : (marks : ℕ) → marks ≡ 0 → ((m : ℕ) → (m < keptMasks) × InSet new m → ⊥) → FoundOn q table rows k (length (w .clause .c .body)) new marks
+  pub new-none : (marks : ℕ) → marks ≡ 0 → ((m : ℕ) → (m < masksIn keptSet) × InSet new m → ⊥) → FoundOn q table rows k (length (w .clause .c .body)) new marks
   new-none marks e none =
       record {
         few = omega arith;
@@ -149,7 +151,7 @@ module _ (words dir table heads : List ℕ) (since rows k : ℕ) (w : HeadAsked 
   part-gone : (m : ℕ) → InSet known-part m → GoneTo q k m (keysOf table known) ks
   part-gone m i c hc s′ C R S hs called passed =
       let (l, h) = in-part words dir table heads since rows k w kept s few first end is-first is-end m .0 i in
-      s .carried k m l h c hc s′ C R S hs (called .0, keys-within table known (knownOf kept k) early _ (called .1)) passed
+      s .carried k m l h c hc s′ C R S hs (called .0, keys-within table known (knownOf keptSet kept k) early _ (called .1)) passed
 
   -- with the rows so far, all that the clause ends in
   pub known-ends : known ≤ since → (key : ℕ) → WithHead q (keysOf table since) (keysOf table rows) k key
@@ -162,10 +164,10 @@ module _ (words dir table heads : List ℕ) (since rows k : ℕ) (w : HeadAsked 
       part-gone
 
   -- and afterwards the new marks are kept, all rows before are known, and all marks have gone to their call rows
-  pub known-keeps : (kept′ ks′ : List ℕ) → Gained (InSet new) k kept kept′ → ((key : ℕ) → List·Memᴰ key ks → List·Memᴰ key ks′)
-      → ((key : ℕ) → HeadGives q (keysOf table known) (keysOf table rows) k known-part new key → List·Memᴰ key ks′) → Keeping q table (set kept′ (keptRows + k) rows) rows ks′
+  pub known-keeps : (kept′ ks′ : List ℕ) → Gained (InSet new) (keptSet * k) keptSet kept kept′ → ((key : ℕ) → List·Memᴰ key ks → List·Memᴰ key ks′)
+      → ((key : ℕ) → HeadGives q (keysOf table known) (keysOf table rows) k known-part new key → List·Memᴰ key ks′) → KeepingMarks q table (set kept′ (keptSet * things + k) rows) rows ks′
   known-keeps kept′ ks′ g more all =
-      keeping-gained (w .situation .setting) table rows k (w .clause .nth-clause) kept kept′ (keeping-stays q table table kept rows ks ks′ (λ m l. refl) more s) known early
+      marks-gained (w .situation .setting) table rows k (w .clause .nth-clause) kept kept′ (marks-stay (w .situation .setting) table table kept rows ks ks′ (λ m l. refl) more s) known early
       (gained-marked k kept kept′ found new marked unkept g)
       (λ m l h. all-gone q table known rows k known-part ks part-gone new ks′ more all m
       (⊎-elim (λ x. inl (in-part words dir table heads since rows k w kept s few first end is-first is-end m .1 (l, x))) inr (g .members m l .0 h)))

@@ -1,17 +1,17 @@
 -- Marks on a clause's head that are kept between rounds: what results from the rows so far is what is kept and what a row more gives.
 use Prim.Native.Nat.{ℕ, zero, suc, _+_, _-_, _*_, _/_, _%_, _^_, _≤_, _<_}
 use native.Mathlib.Omega.{arith}
-use native.Mathlib.Decide.{decLt, ℕ-discrete}
+use native.Mathlib.Decide.{ℕ-discrete}
 use mathlib.Core.Path.{_≡_, sym, ap, subst, _∙_}
 use mathlib.Core.Logic.{_⊎_, inl, inr, ⊎-elim, _↔_}
 use mathlib.Core.List.{List, [], List·Memᴰ, List·Memᴰ·not-nil}
-use lib.ListN.{length, getD, set, take, drop, replicate, length-set, length-replicate}
-use lib.Seq.{getD-set-same, getD-set-other}
+use lib.ListN.{length, getD, set, replicate}
 use lib.Pow.{pow-mono}
 use Rattle.terms.specs.Term.{Term}
 use Rattle.terms.proofs.Masks.{has-none, has-decided}
 use Rattle.marks.specs.Modes.{modes}
 use Rattle.marks.specs.Pass.{Pass}
+use Rattle.program.specs.Lists.{between}
 use Rattle.program.specs.Program.{Nth, Clause, Program}
 use Rattle.program.specs.Shapes.{shapes}
 use Rattle.program.proofs.ShapeLaws.{nth-same, member-decided}
@@ -19,7 +19,10 @@ use Rattle.program.proofs.Nths.{nth-below}
 use Rattle.directory.specs.Layout.{clauseVars}
 use Rattle.rows.specs.Rows.{keysOf}
 use Rattle.rows.specs.MaskSet.{setWords, InSet}
+use Rattle.rows.specs.KeptSets.{masksIn, KeptAt, Gained, Unkept, things, knownOf, keptWords}
 use Rattle.rows.proofs.MaskSets.{zero-word, none-in-zeros}
+use Rattle.rows.proofs.KeptWords.{part-length, part-members}
+use Rattle.rows.proofs.KeptSets.{keeping-none, keeping-later, keeping-for, known-here, known-other, kept-here, kept-other, keeping-gained}
 use Rattle.table.specs.Rules.{Row, call, cont, solution, Reached, first, next}
 use Rattle.table.specs.Keys.{rowKey}
 use Rattle.table.specs.Steps.{opens, makes}
@@ -28,14 +31,13 @@ use Rattle.table.proofs.NewRows.{new-reached}
 use Rattle.table.proofs.Added.{behind-keeps}
 use Rattle.program.proofs.FoundLaws.{sound-same}
 use Rattle.steps.specs.Steps.{RowsIn, Given, Stepped}
-use Rattle.steps.specs.Situation.{Setting, HeadAsked}
+use Rattle.steps.specs.Situation.{Setting, ClauseOf, HeadAsked}
 use Rattle.steps.specs.Heads.{HeadMark, Collected, FoundOn}
 use Rattle.steps.proofs.Stepping.{keys-stay, stepped-within}
 use Rattle.steps.proofs.Meetings.{setting-within}
-use Rattle.ends.specs.Keeping.{keptVars, keptMasks, keptSet, keptRows, keptWords, KeptIn, knownOf, GoneTo, Keeping, Keeps, Gained, Unkept}
+use Rattle.ends.specs.Keeping.{keptVars, keptSet, KeptIn, GoneTo, MarksOf, KeepingMarks, KeepsMarks}
 use Rattle.ends.proofs.ClauseRows.{clause-few}
 use Rattle.ends.proofs.HeadMarks.{all-new, mark-all, mark-below}
-use Rattle.ends.proofs.KeptWords.{part-length, part-members}
 
 -- marks result from rows that are known alone, or from one that is not
 pub reached-known-or-new : (p : Program) (known ks : List ℕ) {k i N : ℕ} → Reached modes p (RowsIn p ks) k i N
@@ -95,44 +97,41 @@ module _ (p : Program) (table : List ℕ) where
         kept = m .kept;
       }
 
+-- a clause is one of the things that have a set
+clause-near : {words dir : List ℕ} {p : Program} → Setting words dir p → (k : ℕ) → ClauseOf p k → k < things
+clause-near setting k w = omega (arith, nth-below (w .nth-clause), setting-within setting .clauses-most)
+
 -- what is kept stays as the table grows, and as rows are linked
-pub keeping-stays : (p : Program) (table table′ kept : List ℕ) (n : ℕ) (ks ks′ : List ℕ) → ((m : ℕ) → m ≤ n → keysOf table′ m ≡ keysOf table m)
-    → ((key : ℕ) → List·Memᴰ key ks → List·Memᴰ key ks′) → Keeping p table kept n ks → Keeping p table′ kept n ks′
-keeping-stays p table table′ kept n ks ks′ same more s =
+pub marks-stay : {words dir : List ℕ} {p : Program} → Setting words dir p → (table table′ kept : List ℕ) (n : ℕ) (ks ks′ : List ℕ) → ((m : ℕ) → m ≤ n → keysOf table′ m ≡ keysOf table m)
+    → ((key : ℕ) → List·Memᴰ key ks → List·Memᴰ key ks′) → KeepingMarks p table kept n ks → KeepingMarks p table′ kept n ks′
+marks-stay {p = p} setting table table′ kept n ks ks′ same more s =
     record {
-      size = s .size;
-      known-within = s .known-within;
-      members = λ k c hc q l.
-          let e = same (knownOf kept k) (s .known-within k c hc) in (
-            λ h. mark-stays p table table′ (knownOf kept k) k (length (c .body)) q e (s .members k c hc q l .0 h),
-            λ m. s .members k c hc q l .1 (mark-stays p table′ table (knownOf kept k) k (length (c .body)) q (sym e) m),
-          );
+      sets = keeping-for keptSet (ClauseOf p) (clause-near setting)
+          (λ k w m q l. (
+            mark-stays p table table′ m k (length (w .c .body)) q (same m l),
+            mark-stays p table′ table m k (length (w .c .body)) q (sym (same m l)),
+          ))
+          (s .sets);
       carried = λ k q l h c hc s′ C R S hs called passed.
-          more _ (s .carried k q l h c hc s′ C R S hs (rw (same (knownOf kept k) (s .known-within k c hc)) at called) passed);
+          more _ (s .carried k q l h c hc s′ C R S hs (rw (same (knownOf keptSet kept k) (s .sets .known-within k (record { c = c; nth-clause = hc }))) at called) passed);
     }
 
-pub keeping-later : (p : Program) (table kept : List ℕ) (n n′ : ℕ) {ks : List ℕ} → n ≤ n′ → Keeping p table kept n ks → Keeping p table kept n′ ks
-keeping-later p table kept n n′ b s =
-    record { size = s .size; known-within = λ k c hc. let l = s .known-within k c hc in omega arith; members = s .members; carried = s .carried }
+pub marks-later : {words dir : List ℕ} {p : Program} → Setting words dir p → (table kept : List ℕ) (n n′ : ℕ) {ks : List ℕ} → n ≤ n′ → KeepingMarks p table kept n ks → KeepingMarks p table kept n′ ks
+marks-later {p = p} setting table kept n n′ b s = record { sets = keeping-later keptSet (ClauseOf p) (clause-near setting) b (s .sets); carried = s .carried }
 
 -- with all words 0 nothing is kept, of no rows
-pub keeping-none : (p : Program) (table kept : List ℕ) (n : ℕ) {ks : List ℕ} → kept ≡ replicate keptWords 0 → Keeping p table kept n ks
-keeping-none p table kept n e =
+pub marks-none : {words dir : List ℕ} {p : Program} → Setting words dir p → (table kept : List ℕ) (n : ℕ) {ks : List ℕ} → kept ≡ replicate (keptWords keptSet) 0 → KeepingMarks p table kept n ks
+marks-none {p = p} setting table kept n e =
     record {
-      size = ap length e ∙ length-replicate {A = ℕ} keptWords 0;
-      known-within = λ k c hc. let z = zero (keptRows + k) in omega arith;
-      members = λ k c hc q l. (
-        λ h. absurd (has-none (q % 16) (rw (zero (keptSet * k + q / 16)) at h)),
-        λ m. absurd (no-mark p table 0 k (length (c .body)) q (subst (λ (x : ℕ). HeadMark p table 0 x k (length (c .body)) q) (zero (keptRows + k)) m)),
-      );
+      sets = keeping-none keptSet (ClauseOf p) (clause-near setting) (MarksOf p table) kept n (λ k w q m. no-mark p table 0 k (length (w .c .body)) q m) e;
       carried = λ k q l h. absurd (has-none (q % 16) (rw (zero (keptSet * k + q / 16)) at h));
     }
   where
     zero : (i : ℕ) → getD kept i 0 ≡ 0
-    zero i = ap (λ (l : List ℕ). getD l i 0) e ∙ zero-word keptWords i
+    zero i = ap (λ (l : List ℕ). getD l i 0) e ∙ zero-word (keptWords keptSet) i
 
 -- marks in a set are kept, or new
-pub kept-or-new : (kept : List ℕ) (k : ℕ) (found found′ : List ℕ) → Unkept kept k found found′ → (q : ℕ) → q < keptMasks → InSet found q → KeptIn kept k q ⊎ InSet found′ q
+pub kept-or-new : (kept : List ℕ) (k : ℕ) (found found′ : List ℕ) → Unkept kept (keptSet * k) keptSet found found′ → (q : ℕ) → q < masksIn keptSet → InSet found q → KeptIn kept k q ⊎ InSet found′ q
 kept-or-new kept k found found′ u q l i = at (has-decided (getD kept (keptSet * k + q / 16) 0) (q % 16))
   where
     at : Dec (KeptIn kept k q) → KeptIn kept k q ⊎ InSet found′ q
@@ -140,11 +139,11 @@ kept-or-new kept k found found′ u q l i = at (has-decided (getD kept (keptSet 
     at (no o) = inr (u .members q .1 (i, λ l′. o))
 
 -- a kept set that gains the new marks of a set has all of them
-pub gained-marked : {P : ℕ → Type 0} (k : ℕ) (kept kept′ found found′ : List ℕ) → Collected P (replicate setWords 0) found → Unkept kept k found found′ → Gained (InSet found′) k kept kept′
-    → Gained P k kept kept′
+pub gained-marked : {P : ℕ → Type 0} (k : ℕ) (kept kept′ found found′ : List ℕ) → Collected P (replicate setWords 0) found → Unkept kept (keptSet * k) keptSet found found′ → Gained (InSet found′) (keptSet * k) keptSet kept kept′
+    → Gained P (keptSet * k) keptSet kept kept′
 gained-marked k kept kept′ found found′ m u g =
     record {
-      size = g .size;
+      as-long = g .as-long;
       members = λ q l. (
         λ h. ⊎-elim inl (λ i. inr (⊎-elim (λ z. absurd (none-in-zeros setWords q z)) (λ x. x) (m .members q (omega arith) .0 (u .members q .0 i .0)))) (g .members q l .0 h),
         λ h. g .members q l .1 (⊎-elim inl (λ x. kept-or-new kept k found found′ u q l (m .members q (omega arith) .1 (inr x))) h),
@@ -153,114 +152,85 @@ gained-marked k kept kept′ found found′ m u g =
     }
 
 -- words say one program
-pub keeps-all : {words dir : List ℕ} {p : Program} (table kept : List ℕ) (n m : ℕ) → Setting words dir p → Keeping p table kept n (keysOf table m) → Keeps words dir table kept n m
-keeps-all table kept n m s h p′ s′ = subst (λ (x : Program). Keeping x table kept n (keysOf table m)) (sound-same _ (s .accepted) (s′ .accepted)) h
+pub keeps-marks : {words dir : List ℕ} {p : Program} (table kept : List ℕ) (n m : ℕ) → Setting words dir p → KeepingMarks p table kept n (keysOf table m) → KeepsMarks words dir table kept n m
+keeps-marks table kept n m s h p′ s′ = subst (λ (x : Program). KeepingMarks x table kept n (keysOf table m)) (sound-same _ (s .accepted) (s′ .accepted)) h
 
 -- the table of a step has the rows that are known
-pub step-keeps : (p : Program) (ks : List ℕ) (round room n n′ rows : ℕ) (table buckets table′ buckets′ kept : List ℕ) (Must : ℕ → Type 0) → rows ≤ n
-    → Stepped p ks round room n table buckets Must n′ table′ buckets′ → n′ ≤ room → Keeping p table kept rows (keysOf table n) → Keeping p table′ kept rows (keysOf table′ n′)
-step-keeps p ks round room n n′ rows table buckets table′ buckets′ kept Must l step within =
+pub step-keeps : {words dir : List ℕ} {p : Program} → Setting words dir p → (ks : List ℕ) (round room n n′ rows : ℕ) (table buckets table′ buckets′ kept : List ℕ) (Must : ℕ → Type 0) → rows ≤ n
+    → Stepped p ks round room n table buckets Must n′ table′ buckets′ → n′ ≤ room → KeepingMarks p table kept rows (keysOf table n) → KeepingMarks p table′ kept rows (keysOf table′ n′)
+step-keeps {p = p} setting ks round room n n′ rows table buckets table′ buckets′ kept Must l step within =
     let g = stepped-within p ks round room n n′ table buckets table′ buckets′ Must step within in
-    keeping-stays p table table′ kept rows (keysOf table n) (keysOf table′ n′) (λ m b. keys-stay table table′ n m (omega arith) (g .same-rows))
+    marks-stay setting table table′ kept rows (keysOf table n) (keysOf table′ n′) (λ m b. keys-stay table table′ n m (omega arith) (g .same-rows))
     (behind-keeps (keysOf table n) (Given p ks) (keysOf table′ n′) (g .behind))
 
-module _ {words dir : List ℕ} {p : Program} (setting : Setting words dir p) (table : List ℕ) (rows k : ℕ) {c : Clause} (hc : Nth (p .clauses) k c) (kept kept′ : List ℕ) {ks : List ℕ} (s : Keeping p table kept rows ks)
-    (since : ℕ) (early : since ≤ knownOf kept k) (g : Gained (HeadMark p table since rows k (length (c .body))) k kept kept′)
-    (gone : (q : ℕ) → q < keptMasks → KeptIn kept′ k q → GoneTo p k q (keysOf table rows) ks) where
-  below : {k′ : ℕ} {c′ : Clause} → Nth (p .clauses) k′ c′ → k′ < 64
-  below h = omega (arith, nth-below h, setting-within setting .clauses-most)
+module _ {words dir : List ℕ} {p : Program} (setting : Setting words dir p) (table : List ℕ) (rows k : ℕ) {c : Clause} (hc : Nth (p .clauses) k c) (kept kept′ : List ℕ) {ks : List ℕ}
+    (s : KeepingMarks p table kept rows ks) (since : ℕ) (early : since ≤ knownOf keptSet kept k) (g : Gained (HeadMark p table since rows k (length (c .body))) (keptSet * k) keptSet kept kept′)
+    (gone : (q : ℕ) → q < masksIn keptSet → KeptIn kept′ k q → GoneTo p k q (keysOf table rows) ks) where
+  near : (k : ℕ) → ClauseOf p k → k < things
+  near = clause-near setting
 
-  abbrev now-known : List ℕ
-  now-known = set kept′ (keptRows + k) rows
+  this : ClauseOf p k
+  this = record { c = c; nth-clause = hc }
 
-  its-rows : knownOf now-known k ≡ rows
-  its-rows = getD-set-same kept′ (keptRows + k) rows 0 (omega (arith, below hc, g .size, s .size))
-
-  other-rows : (k′ : ℕ) → (k′ ≡ k → ⊥) → knownOf now-known k′ ≡ knownOf kept k′
-  other-rows k′ o = getD-set-other kept′ (keptRows + k) (keptRows + k′) rows 0 (λ e. o (omega arith)) ∙ g .others (keptRows + k′) (inr (omega (arith, below hc)))
-
-  set-word : (k′ q : ℕ) → k′ < 64 → q < keptMasks → getD now-known (keptSet * k′ + q / 16) 0 ≡ getD kept′ (keptSet * k′ + q / 16) 0
-  set-word k′ q b l = getD-set-other kept′ (keptRows + k) (keptSet * k′ + q / 16) rows 0 (λ e. omega arith)
-
-  its-marks : (q : ℕ) → q < keptMasks → KeptIn now-known k q ↔ HeadMark p table 0 rows k (length (c .body)) q
-  its-marks q l = rw (set-word k q (below hc) l) (
+  its-marks : (q : ℕ) → q < masksIn keptSet → KeptIn kept′ k q ↔ HeadMark p table 0 rows k (length (c .body)) q
+  unfolding this
+  its-marks q l = (
     λ h. ⊎-elim
-        (λ h′. mark-all p table 0 (knownOf kept k) rows k (length (c .body)) q (s .known-within k c hc) (s .members k c hc q l .0 h′))
+        (λ h′. mark-all p table 0 (knownOf keptSet kept k) rows k (length (c .body)) q (s .sets .known-within k this) (s .sets .members k this q l .0 h′))
         (λ m. mark-all p table since rows rows k (length (c .body)) q (omega arith) m)
         (g .members q l .0 h),
-    λ m. g .members q l .1 (⊎-elim (λ m′. inl (s .members k c hc q l .1 (mark-all p table 0 since (knownOf kept k) k (length (c .body)) q early m′))) inr (mark-split p table since rows k (length (c .body)) q m)),
+    λ m. g .members q l .1 (⊎-elim (λ m′. inl (s .sets .members k this q l .1 (mark-all p table 0 since (knownOf keptSet kept k) k (length (c .body)) q early m′))) inr (mark-split p table since rows k (length (c .body)) q m)),
   )
 
-  other-word : (k′ q : ℕ) → (k′ ≡ k → ⊥) → k′ < 64 → q < keptMasks → getD now-known (keptSet * k′ + q / 16) 0 ≡ getD kept (keptSet * k′ + q / 16) 0
-  other-word k′ q o b l = set-word k′ q b l ∙ g .others (keptSet * k′ + q / 16) (side (order k′ k))
-    where
-      order : (x y : ℕ) → (x < y) ⊎ (y ≤ x)
-      order x y = decided (decLt x y)
-        where
-          decided : Dec (x < y) → (x < y) ⊎ (y ≤ x)
-          decided (yes h) = inl h
-          decided (no h) = inr (omega arith)
-
-      side : (k′ < k) ⊎ (k ≤ k′) → (keptSet * k′ + q / 16 < keptSet * k) ⊎ (keptSet * k + keptSet ≤ keptSet * k′ + q / 16)
-      side (inl h) = inl (omega arith)
-      side (inr h) = inr (above (ℕ-discrete k′ k))
-        where
-          above : Dec (k′ ≡ k) → keptSet * k + keptSet ≤ keptSet * k′ + q / 16
-          above (yes e) = absurd (o e)
-          above (no e) = omega arith
+  abbrev now-known : List ℕ
+  now-known = set kept′ (keptSet * things + k) rows
 
   -- the marks that are new are kept, and all rows so far are known
-  pub keeping-gained : Keeping p table (set kept′ (keptRows + k) rows) rows ks
-  keeping-gained =
+  pub marks-gained : KeepingMarks p table (set kept′ (keptSet * things + k) rows) rows ks
+  marks-gained =
       record {
-        size = length-set kept′ (keptRows + k) rows ∙ g .size ∙ s .size;
-        known-within = λ k′ c′ h. within k′ c′ h (ℕ-discrete k′ k);
-        members = λ k′ c′ h q l. at k′ c′ h q l (ℕ-discrete k′ k);
+        sets = keeping-gained keptSet (ClauseOf p) near (s .sets .all-words) k (near k this) g rows (s .sets) (omega arith)
+            (λ w q l. subst (λ (x : Clause). KeptIn kept′ k q ↔ HeadMark p table 0 rows k (length (x .body)) q) (nth-same hc (w .nth-clause)) (its-marks q l));
         carried = λ k′ q l i c′ h. went k′ q l i c′ h (ℕ-discrete k′ k);
       }
     where
-      within : (k′ : ℕ) (c′ : Clause) → Nth (p .clauses) k′ c′ → Dec (k′ ≡ k) → knownOf now-known k′ ≤ rows
-      within k′ c′ h (yes e) = rw e (omega (arith, its-rows))
-      within k′ c′ h (no o) = rw (other-rows k′ o) (s .known-within k′ c′ h)
-
-      at : (k′ : ℕ) (c′ : Clause) (h : Nth (p .clauses) k′ c′) (q : ℕ) → q < keptMasks → Dec (k′ ≡ k)
-          → KeptIn now-known k′ q ↔ HeadMark p table 0 (knownOf now-known k′) k′ (length (c′ .body)) q
-      at k′ c′ h q l (no o) = rw (other-rows k′ o, other-word k′ q o (below h) l) (s .members k′ c′ h q l)
-      at k′ c′ h q l (yes e) =
-          let same : c′ ≡ c = nth-same (subst (λ (x : ℕ). Nth (p .clauses) x c′) e h) hc in
-          rw (e, same, its-rows) (its-marks q l)
-
-      went : (k′ q : ℕ) → q < keptMasks → KeptIn now-known k′ q → (c′ : Clause) (h : Nth (p .clauses) k′ c′) → Dec (k′ ≡ k)
-          → (s′ C R : ℕ) (S : Term) → Nth (shapes p) s′ S → RowsIn p (keysOf table (knownOf now-known k′)) (call s′ C) → Pass (c′ .head) q S C R → List·Memᴰ (rowKey p (solution s′ R)) ks
-      went k′ q l i c′ h (no o) s′ C R S hs called = s .carried k′ q l (rw (other-word k′ q o (below h) l) at i) c′ h s′ C R S hs (rw (other-rows k′ o) at called)
+      went : (k′ q : ℕ) → q < masksIn keptSet → KeptIn now-known k′ q → (c′ : Clause) (h : Nth (p .clauses) k′ c′) → Dec (k′ ≡ k)
+          → (s′ C R : ℕ) (S : Term) → Nth (shapes p) s′ S → RowsIn p (keysOf table (knownOf keptSet now-known k′)) (call s′ C) → Pass (c′ .head) q S C R → List·Memᴰ (rowKey p (solution s′ R)) ks
+      went k′ q l i c′ h (no o) s′ C R S hs called =
+          s .carried k′ q l (kept-other keptSet (ClauseOf p) near (s .sets .all-words) k (near k this) g rows k′ q o (near k′ (record { c = c′; nth-clause = h })) l .0 i) c′ h s′ C R S hs
+          (rw (known-other keptSet (ClauseOf p) near (s .sets .all-words) k (near k this) g rows k′ o) at called)
       went k′ q l i c′ h (yes e) s′ C R S hs called =
-          gone q l (rw (e, set-word k q (below hc) l) at i) c′ (subst (λ (x : ℕ). Nth (p .clauses) x c′) e h) s′ C R S hs (rw (e, its-rows) at called)
+          gone q l (kept-here keptSet (ClauseOf p) near (s .sets .all-words) k (near k this) g rows q l .0 (subst (λ (x : ℕ). KeptIn now-known x q) e i)) c′ (subst (λ (x : ℕ). Nth (p .clauses) x c′) e h) s′ C R S hs
+          (subst (λ (x : ℕ). RowsIn p (keysOf table x) (call s′ C)) (ap (knownOf keptSet now-known) e ∙ known-here keptSet (ClauseOf p) near (s .sets .all-words) k (near k this) g rows) called)
 
 -- the kept set of a clause of few variables has marks that result, and all that result from some of the rows that are known
 module _ (words dir table heads : List ℕ) (since rows k : ℕ) (w : HeadAsked words dir table heads since rows k) (kept : List ℕ)
-    {ks : List ℕ} (s : Keeping (w .situation .p) table kept rows ks) (few : getD dir (clauseVars + k) 0 ≤ keptVars) (first end : ℕ) (is-first : first ≡ keptSet * k) (is-end : end ≡ first + keptSet) where
+    {ks : List ℕ} (s : KeepingMarks (w .situation .p) table kept rows ks) (few : getD dir (clauseVars + k) 0 ≤ keptVars) (first end : ℕ) (is-first : first ≡ keptSet * k) (is-end : end ≡ first + keptSet) where
   abbrev part : List ℕ
-  part = take (end - first) (drop first kept)
+  part = between kept first end
 
-  pub in-part : (q : ℕ) → InSet part q ↔ ((q < keptMasks) × KeptIn kept k q)
-  in-part = part-members kept (s .size) k (clause-few words dir table heads since rows k w .0) first end is-first is-end
+  part-fits : first + keptSet ≤ length kept
+  part-fits = omega (arith, clause-few words dir table heads since rows k w .0, s .sets .all-words)
 
-  kept-mark : (q : ℕ) → InSet part q → HeadMark (w .situation .p) table 0 (knownOf kept k) k (length (w .clause .c .body)) q
-  kept-mark q h = let (b, i) = in-part q .0 h in s .members k (w .clause .c) (w .clause .nth-clause) q b .0 i
+  pub in-part : (q : ℕ) → InSet part q ↔ ((q < masksIn keptSet) × KeptIn kept k q)
+  in-part q = subst (λ (x : ℕ). InSet part q ↔ ((q < masksIn keptSet) × KeptAt kept x q)) is-first (part-members kept first keptSet part-fits end is-end q)
 
-  pub few-masks : 2 ^ getD dir (clauseVars + k) 0 ≤ keptMasks
+  kept-mark : (q : ℕ) → InSet part q → HeadMark (w .situation .p) table 0 (knownOf keptSet kept k) k (length (w .clause .c .body)) q
+  kept-mark q h = let (b, i) = in-part q .0 h in s .sets .members k (w .clause) q b .0 i
+
+  pub few-masks : 2 ^ getD dir (clauseVars + k) 0 ≤ masksIn keptSet
   few-masks = pow-mono {j = 9} few
 
   pub kept-on : (marks : ℕ) → marks ≡ 2 ^ getD dir (clauseVars + k) 0 → FoundOn (w .situation .p) table rows k (length (w .clause .c .body)) part marks
   kept-on marks e =
       record {
         few = omega (arith, few-masks);
-        within = omega (arith, few-masks, part-length kept (s .size) k (clause-few words dir table heads since rows k w .0) first end is-first is-end);
-        below = λ q h. rw e (mark-below words dir table heads since rows k w 0 (knownOf kept k) q (kept-mark q h));
-        result = λ q h. mark-all (w .situation .p) table 0 (knownOf kept k) rows k _ q (s .known-within k (w .clause .c) (w .clause .nth-clause)) (kept-mark q h);
+        within = omega (arith, few-masks, part-length kept first keptSet part-fits end is-end);
+        below = λ q h. rw e (mark-below words dir table heads since rows k w 0 (knownOf keptSet kept k) q (kept-mark q h));
+        result = λ q h. mark-all (w .situation .p) table 0 (knownOf keptSet kept k) rows k _ q (s .sets .known-within k (w .clause)) (kept-mark q h);
       }
 
-  pub kept-holds : (upto : ℕ) → upto ≤ knownOf kept k → (q : ℕ) → HeadMark (w .situation .p) table 0 upto k (length (w .clause .c .body)) q → InSet part q
+  pub kept-holds : (upto : ℕ) → upto ≤ knownOf keptSet kept k → (q : ℕ) → HeadMark (w .situation .p) table 0 upto k (length (w .clause .c .body)) q → InSet part q
   kept-holds upto l q m =
-      let b : q < keptMasks = omega (arith, few-masks, mark-below words dir table heads since rows k w 0 upto q m) in
-      in-part q .1 (b, s .members k (w .clause .c) (w .clause .nth-clause) q b .1 (mark-all (w .situation .p) table 0 upto (knownOf kept k) k _ q l m))
+      let b : q < masksIn keptSet = omega (arith, few-masks, mark-below words dir table heads since rows k w 0 upto q m) in
+      in-part q .1 (b, s .sets .members k (w .clause) q b .1 (mark-all (w .situation .p) table 0 upto (knownOf keptSet kept k) k _ q l m))

@@ -5,6 +5,5 @@ pub mod HeadAtoms
 pub mod OneShape
 pub mod HeadShapes
 pub mod HeadMarks
-pub mod KeptWords
 pub mod KeptMarks
 pub mod Endings

@@ -1,16 +1,15 @@
 -- Answers in their atom's own numbering: put into the set of the atom, and listed from it. There is room for all, since the atom has few masks.
-use Prim.Native.Nat.{ℕ, _+_, _*_, _/_, _%_, _^_, _≤_, _<_}
+use Prim.Native.Nat.{ℕ, _+_, _*_, _^_, _≤_, _<_}
 use native.Mathlib.Omega.{arith}
 use native.Mathlib.Numerals.{add-one}
 use native.Mathlib.Decide.{ℕ-discrete}
-use mathlib.Core.Path.{_≡_, refl, sym, ap, subst, _∙_}
+use mathlib.Core.Path.{_≡_, refl, sym, subst}
 use mathlib.Core.Bool.{true, false}
 use mathlib.Core.Logic.{_⊎_, inl, inr, ⊎-elim, _↔_}
 use mathlib.Core.List.{List, [], _∷_, _++_, map, List·Memᴰ, List·Memᴰ·head, List·Memᴰ·not-nil, List·Memᴰ·append-cases, List·Memᴰ·eq-of-singleton, Memᴰ·append-left, Memᴰ·append-right}
-use lib.ListN.{length, take, getD, set, length-set, length-map}
-use lib.Seq.{take-suc, length-take-le, getD-set-other}
+use lib.ListN.{length, take, getD, set, length-map}
+use lib.Seq.{take-suc, length-take-le}
 use lib.Pow.{pow-mono}
-use lib.Bits.{bitOr}
 use Rattle.terms.specs.Term.{Term, Occ}
 use Rattle.terms.specs.Cells.{variables}
 use Rattle.terms.specs.Mask.{Has}
@@ -21,12 +20,13 @@ use Rattle.marks.proofs.RowMasks.{renumbered-restored}
 use Rattle.program.specs.Shapes.{number}
 use Rattle.program.specs.Limits.{masks}
 use Rattle.program.specs.Lists.{Distinct}
-use Rattle.rows.specs.MaskSet.{InSet, Inserted}
-use Rattle.rows.proofs.MaskSets.{bit-put}
+use Rattle.rows.specs.MaskSet.{Inserted}
+use Rattle.rows.specs.KeptSets.{Gained}
+use Rattle.rows.proofs.KeptWords.{gained-none, gained-then}
 use Rattle.table.proofs.Distinct.{distinct-map}
 use Rattle.table.proofs.Lists.{has-map}
 use Rattle.joining.specs.Answers.{Found}
-use Rattle.joining.specs.KeptAnswers.{answerMasks, answerRows, answerWords, AnsweredIn, Gained, Ordered, Recalled, Own, FewVars, RecallAsked}
+use Rattle.joining.specs.KeptAnswers.{answerSet, answerMasks, AnsweredIn, Ordered, Recalled, Own, FewVars, RecallAsked}
 use Rattle.joining.proofs.AnswerLists.{distinct-below, found-none, found-for, found-there, found-new}
 
 module _ {A : Term} {order : List ℕ} {count j : ℕ} (k : FewVars A order count j) where
@@ -68,23 +68,15 @@ module _ {A : Term} {order : List ℕ} {count j : ℕ} (k : FewVars A order coun
       omega (arith, length-map l (renumberedOf A (number A)))
 
   -- answers put into the set
-  pub answered-none : (answers answered : List ℕ) → Gained (Ordered order count answers 0) j answered answered
-  answered-none answers answered =
-      record { size = refl; members = λ x. (inl, ⊎-elim (λ h. h) (λ g. absurd (List·Memᴰ·not-nil (g .2 .1)))); others = λ i l. refl }
+  pub kept-none : (answers answered : List ℕ) → Gained (Ordered order count answers 0) (answerSet * j) answerSet answered answered
+  kept-none answers answered = gained-none (answerSet * j) answerSet answered (λ q o. List·Memᴰ·not-nil (o .1))
 
-  module _ (answers answered₀ answered : List ℕ) (i M : ℕ) (size : length answered₀ ≡ answerWords) (less : i < length answers) (r : Reordered order count (getD answers i 0) M)
-      (g : Gained (Ordered order count answers i) j answered₀ answered) where
-    abbrev bit : ℕ
-    bit = answerMasks * j + M
+  module _ (answers : List ℕ) (i M : ℕ) (r : Reordered order count (getD answers i 0) M) where
+    pub answer-small : M < answerMasks
+    answer-small = omega (arith, few-masks, reordered-below (getD answers i 0) M r)
 
-    small : M < answerMasks
-    small = omega (arith, few-masks, reordered-below (getD answers i 0) M r)
-
-    pub word-there : bit / 16 < answerRows
-    word-there = omega (arith, small, k .near)
-
-    one-more : (q : ℕ) → (Ordered order count answers i q ⊎ (q ≡ M)) ↔ Ordered order count answers (i + 1) q
-    one-more q = (
+    one-more : i < length answers → (q : ℕ) → (Ordered order count answers i q ⊎ (q ≡ M)) ↔ Ordered order count answers (i + 1) q
+    one-more less q = (
       ⊎-elim
           (λ o. (o .0, subst (List·Memᴰ (o .0)) (sym parts) (Memᴰ·append-left _ (o .1)), o .2))
           (λ e. (getD answers i 0, subst (List·Memᴰ (getD answers i 0)) (sym parts) (Memᴰ·append-right (take i answers) (List·Memᴰ·head refl)), rw e r)),
@@ -97,27 +89,9 @@ module _ {A : Term} {order : List ℕ} {count j : ℕ} (k : FewVars A order coun
         parts : take (i + 1) answers ≡ take i answers ++ (getD answers i 0 ∷ [])
         parts = rw add-one (take-suc answers i 0 less)
 
-    pub answered-one : Gained (Ordered order count answers (i + 1)) j answered₀ (set answered (bit / 16) (bitOr (getD answered (bit / 16) 0) (2 ^ (bit % 16))))
-    answered-one =
-        record {
-          size = length-set answered (bit / 16) (bitOr (getD answered (bit / 16) 0) (2 ^ (bit % 16))) ∙ g .size;
-          members = λ x. (
-            λ h. ⊎-elim
-                (λ o. ⊎-elim inl (λ n. inr (n .0, n .1, one-more (n .0) .0 (inl (n .2)), n .3)) (g .members x .0 o))
-                (λ e. inr (M, small, one-more M .0 (inr refl), e))
-                (put x .0 h),
-            ⊎-elim
-                (λ o. put x .1 (inl (g .members x .1 (inl o))))
-                (λ n. ⊎-elim
-                (λ o. put x .1 (inl (g .members x .1 (inr (n .0, n .1, o, n .3)))))
-                (λ e. put x .1 (inr (n .3 ∙ ap (λ (y : ℕ). answerMasks * j + y) e)))
-                (one-more (n .0) .1 (n .2))),
-          );
-          others = λ y l. getD-set-other answered (bit / 16) y (bitOr (getD answered (bit / 16) 0) (2 ^ (bit % 16))) 0 (λ e. omega (arith, word-there)) ∙ g .others y l;
-        }
-      where
-        put : (x : ℕ) → InSet (set answered (bit / 16) (bitOr (getD answered (bit / 16) 0) (2 ^ (bit % 16)))) x ↔ (InSet answered x ⊎ (x ≡ bit))
-        put = bit-put answered bit (omega (arith, word-there, g .size, size))
+    pub kept-one : {answered₀ answered answered′ : List ℕ} → i < length answers → Gained (Ordered order count answers i) (answerSet * j) answerSet answered₀ answered
+        → (M < answerMasks → Gained (λ q. q ≡ M) (answerSet * j) answerSet answered answered′) → Gained (Ordered order count answers (i + 1)) (answerSet * j) answerSet answered₀ answered′
+    kept-one less before put = gained-then before (put answer-small) (one-more less)
 
 -- answers listed from the set
 module _ {order seen₀ answers₀ answered : List ℕ} {count upto j : ℕ} (w : RecallAsked order seen₀ answers₀ answered count upto j) where

@@ -1,18 +1,18 @@
 -- The answers of a place that are kept: with those of the rows that are not known yet they are all, and listed from the set they are as they were.
-use Prim.Native.Nat.{ℕ, _+_, _-_, _*_, _/_, _^_, _≤_, _<_}
+use Prim.Native.Nat.{ℕ, _+_, _-_, _*_, _^_, _≤_, _<_}
 use native.Mathlib.Omega.{arith}
-use native.Mathlib.Decide.{decLt, ℕ-discrete}
-use mathlib.Core.Path.{_≡_, refl, sym, ap, subst, _∙_}
+use native.Mathlib.Decide.{decLt}
+use mathlib.Core.Path.{_≡_, sym, ap, subst, _∙_}
 use mathlib.Core.Logic.{_⊎_, inl, inr, ⊎-elim, _↔_}
 use mathlib.Core.List.{List, List·Memᴰ}
-use lib.ListN.{length, getD, set, take, drop, replicate, length-set, length-replicate, getD-replicate}
-use lib.Seq.{getD-set-same, getD-set-other, take-take}
+use lib.ListN.{length, getD, set, take, drop, replicate}
+use lib.Seq.{take-take}
 use Rattle.terms.specs.Term.{Term}
 use Rattle.terms.proofs.Masks.{has-none, marks-unique}
 use Rattle.terms.proofs.RunVariables.{atom-variables}
 use Rattle.terms.specs.Mask.{Has}
 use Rattle.marks.specs.Pass.{Pass}
-use Rattle.marks.specs.Modes.{InOrder, Reordered, Restored}
+use Rattle.marks.specs.Modes.{InOrder, Restored}
 use Rattle.marks.proofs.Modes.{renumberedOf, renumberedOf-renumbered}
 use Rattle.marks.proofs.RowMasks.{reordered-renumbered, renumbered-reordered, renumbered-restored}
 use Rattle.program.specs.Program.{Program}
@@ -22,8 +22,8 @@ use Rattle.program.proofs.ShapeLaws.{nth-same}
 use Rattle.directory.specs.Layout.{bodyStart, bodyCells}
 use Rattle.directory.proofs.Cuts.{middle-part}
 use Rattle.rows.specs.Rows.{slotAt, maskAt}
-use Rattle.rows.specs.MaskSet.{InSet}
-use Rattle.rows.proofs.MaskSets.{none-in-zeros}
+use Rattle.rows.specs.KeptSets.{Gained, things, keptWords}
+use Rattle.rows.proofs.KeptSets.{keeping-none, keeping-later, keeping-for, known-here, keeping-gained}
 use Rattle.program.proofs.FoundLaws.{sound-same}
 use Rattle.steps.specs.Situation.{Setting, Situation, BodyOf, AtomRun}
 use Rattle.steps.specs.Steps.{Stepped}
@@ -32,7 +32,7 @@ use Rattle.steps.proofs.Meetings.{setting-within}
 use Rattle.steps.proofs.Stepping.{stepped-within}
 use Rattle.joining.specs.Answers.{Answer, Found}
 use Rattle.joining.specs.Joined.{Answered}
-use Rattle.joining.specs.KeptAnswers.{answerAtoms, answerVars, answerMasks, answerRows, answerWords, AnsweredIn, answeredOf, OwnAnswer, KeepingAnswers, KeepsAnswers, Gained, Ordered, Recalled, Own, FewVars}
+use Rattle.joining.specs.KeptAnswers.{answerVars, answerSet, answerMasks, AnsweredIn, answeredOf, OwnAnswer, KeptAtom, AnswersTo, KeepingAnswers, KeepsAnswers, Ordered, Recalled, Own, FewVars}
 use Rattle.joining.proofs.KeptMasks.{few-masks, renumbered-below}
 use Rattle.joining.proofs.PlaceAnswers.{SinceKnown}
 use Rattle.joining.proofs.PlaceSteps.{one-body}
@@ -73,65 +73,34 @@ module _ {words dir table heads : List ℕ} {since rows j : ℕ} (w : Situation 
     rw (e, f) (body-at (w .setting) b .stands .fits),
   )
 
-  pub few-vars : {order : List ℕ} {count : ℕ} → InOrder (b .A) (number (b .A)) order count → count ≤ answerVars → j < answerAtoms → FewVars (b .A) order count j
+  pub few-vars : {order : List ℕ} {count : ℕ} → InOrder (b .A) (number (b .A)) order count → count ≤ answerVars → j < things → FewVars (b .A) order count j
   few-vars o l n = record { in-order = o; variables-few = atom-variables (body-atom (w .setting) b); few = l; near = n }
 
   module _ {order : List ℕ} {count : ℕ} (k : FewVars (b .A) order count j) where
     module _ (answered answered′ answers : List ℕ) (known fresh all : ℕ) (s : KeepingAnswers (w .p) table answered rows) (early : known ≤ answeredOf answered j)
-        (listed : SinceKnown (w .p) table (b .A) known since rows answers fresh all) (g : Gained (Ordered order count answers all) j answered answered′)
+        (listed : SinceKnown (w .p) table (b .A) known since rows answers fresh all) (g : Gained (Ordered order count answers all) (answerSet * j) answerSet answered answered′)
         (x : ℕ) (x-is : x ≡ rows) where
-      abbrev now-known : List ℕ
-      now-known = set answered′ (answerRows + j) x
-
-      its-rows : answeredOf now-known j ≡ rows
-      its-rows = getD-set-same answered′ (answerRows + j) x 0 (omega (arith, k .near, g .size, s .size)) ∙ x-is
-
-      other-rows : (j′ : ℕ) → (j′ ≡ j → ⊥) → answeredOf now-known j′ ≡ answeredOf answered j′
-      other-rows j′ o = getD-set-other answered′ (answerRows + j) (answerRows + j′) x 0 (λ e. o (omega arith)) ∙ g .others (answerRows + j′) (omega arith)
-
-      set-word : (j′ q : ℕ) → j′ < answerAtoms → q < answerMasks → getD now-known ((answerMasks * j′ + q) / 16) 0 ≡ getD answered′ ((answerMasks * j′ + q) / 16) 0
-      set-word j′ q n l = getD-set-other answered′ (answerRows + j) ((answerMasks * j′ + q) / 16) x 0 (λ e. omega arith)
-
-      its-answers : (q : ℕ) → q < answerMasks → AnsweredIn answered′ j q ↔ OwnAnswer (w .p) table (b .A) rows q
-      its-answers q l = (
+      its-answers : (q : ℕ) → q < answerMasks → AnsweredIn answered′ j q ↔ OwnAnswer (w .p) table (b .A) x q
+      its-answers q l = rw x-is (
         λ h. ⊎-elim
-            (λ o. let a = s .members j (k .near) b q l .0 o in (a .0, answer-wider (w .p) table (b .A) (a .1) (omega arith) (s .known-within j (k .near) b), a .2))
-            (λ n.
-            let same : n .0 ≡ q = omega (arith, n .3) in
-            (n .2 .0, answer-wider (w .p) table (b .A) (listed .are (n .2 .0) .0 (n .2 .1)) (omega arith) (omega arith), reordered-renumbered order count (n .2 .0) q (k .in-order) (subst (Reordered order count (n .2 .0)) same (n .2 .2))))
-            (g .members (answerMasks * j + q) .0 h),
-        λ a. g .members (answerMasks * j + q) .1 (⊎-elim
-            (λ o. inl (s .members j (k .near) b q l .1 (a .0, answer-wider (w .p) table (b .A) o (omega arith) early, a .2)))
-            (λ n. inr (q, l, (a .0, listed .are (a .0) .1 n, renumbered-reordered order count (a .0) q (k .in-order) (a .2)), refl))
+            (λ o. let a = s .sets .members j (k .near, b) q l .0 o in (a .0, answer-wider (w .p) table (b .A) (a .1) (omega arith) (s .sets .known-within j (k .near, b)), a .2))
+            (λ n. (n .0, answer-wider (w .p) table (b .A) (listed .are (n .0) .0 (n .1)) (omega arith) (omega arith), reordered-renumbered order count (n .0) q (k .in-order) (n .2)))
+            (g .members q l .0 h),
+        λ a. g .members q l .1 (⊎-elim
+            (λ o. inl (s .sets .members j (k .near, b) q l .1 (a .0, answer-wider (w .p) table (b .A) o (omega arith) early, a .2)))
+            (λ n. inr (a .0, listed .are (a .0) .1 n, renumbered-reordered order count (a .0) q (k .in-order) (a .2)))
             (answer-split (w .p) table (b .A) known (a .1))),
       )
 
       -- the answers that are new are kept, and all rows so far are known
-      pub keeping-answered : KeepingAnswers (w .p) table (set answered′ (answerRows + j) x) rows
-      keeping-answered =
-          record {
-            size = length-set answered′ (answerRows + j) x ∙ g .size ∙ s .size;
-            known-within = λ j′ n b′. within j′ n b′ (ℕ-discrete j′ j);
-            members = λ j′ n b′ q l. rw (set-word j′ q n l) (at j′ n b′ q l (ℕ-discrete j′ j));
-          }
-        where
-          one : (j′ : ℕ) → j′ ≡ j → (b′ : BodyOf (w .p) j′) → b′ .A ≡ b .A
-          one j′ e = subst (λ (x : ℕ). (b′ : BodyOf (w .p) x) → b′ .A ≡ b .A) (sym e) (λ b′. same-atom (w .p) b′ b)
+      pub keeping-answered : KeepingAnswers (w .p) table (set answered′ (answerSet * things + j) x) rows
+      keeping-answered = record {
+        sets = keeping-gained answerSet (KeptAtom (w .p)) (λ j′ atom. atom .0) (s .sets .all-words) j (k .near) g x (s .sets) (omega arith)
+            (λ atom q l. subst (λ (A : Term). AnsweredIn answered′ j q ↔ OwnAnswer (w .p) table A x q) (same-atom (w .p) b (atom .1)) (its-answers q l));
+      }
 
-          within : (j′ : ℕ) → j′ < answerAtoms → BodyOf (w .p) j′ → Dec (j′ ≡ j) → answeredOf now-known j′ ≤ rows
-          within j′ n b′ (yes e) = rw e (omega (arith, its-rows))
-          within j′ n b′ (no o) = rw (other-rows j′ o) (s .known-within j′ n b′)
-
-          at : (j′ : ℕ) → j′ < answerAtoms → (b′ : BodyOf (w .p) j′) (q : ℕ) → q < answerMasks → Dec (j′ ≡ j)
-              → AnsweredIn answered′ j′ q ↔ OwnAnswer (w .p) table (b′ .A) (answeredOf now-known j′) q
-          at j′ n b′ q l (yes e) = rw (one j′ e b′, e, its-rows) (its-answers q l)
-          at j′ n b′ q l (no o) = rw (other-rows j′ o) (
-            λ h. s .members j′ n b′ q l .0 (⊎-elim (λ x. x) (λ m. absurd (o (omega (arith, m .1, m .3)))) (g .members (answerMasks * j′ + q) .0 h)),
-            λ a. g .members (answerMasks * j′ + q) .1 (inl (s .members j′ n b′ q l .1 a)),
-          )
-
-      pub known-answered : answeredOf (set answered′ (answerRows + j) x) j ≡ rows
-      known-answered = its-rows
+      pub known-answered : answeredOf (set answered′ (answerSet * things + j) x) j ≡ rows
+      known-answered = known-here answerSet (KeptAtom (w .p)) (λ j′ atom. atom .0) (s .sets .all-words) j (k .near) g x ∙ x-is
 
     module _ (answers : List ℕ) (known fresh all newest : ℕ) (listed : SinceKnown (w .p) table (b .A) known since rows answers fresh all) where
       -- no cont row is new
@@ -153,7 +122,7 @@ module _ {words dir table heads : List ℕ} {since rows j : ℕ} (w : Situation 
 
           out : (N q : ℕ) → q < 2 ^ count → AnsweredIn answered j q → Restored order count q N → Answer (w .p) table (b .A) 0 rows N
           out N q small h r =
-              let a = s .members j (k .near) b q (omega (arith, few-masks k)) .0 h in
+              let a = s .sets .members j (k .near, b) q (omega (arith, few-masks k)) .0 h in
               let same : N ≡ a .0 = marks-unique (λ v. (x : ℕ) × (x < count) × (getD order x 0 ≡ v) × Has q x) N (a .0) r (renumbered-restored order count (a .0) q (k .in-order) (answer-own (w .p) table (b .A) (a .0) (a .1)) (a .2)) in
               subst (λ (x : ℕ). Answer (w .p) table (b .A) 0 x N) e (subst (Answer (w .p) table (b .A) 0 (answeredOf answered j)) (sym same) (a .1))
 
@@ -163,22 +132,21 @@ module _ {words dir table heads : List ℕ} {since rows j : ℕ} (w : Situation 
               let small = renumbered-below k N (renumberedOf (b .A) (number (b .A)) N) n in (
                 renumberedOf (b .A) (number (b .A)) N,
                 small,
-                s .members j (k .near) b (renumberedOf (b .A) (number (b .A)) N) (omega (arith, few-masks k)) .1 (N, subst (λ (x : ℕ). Answer (w .p) table (b .A) 0 x N) (sym e) a, n),
+                s .sets .members j (k .near, b) (renumberedOf (b .A) (number (b .A)) N) (omega (arith, few-masks k)) .1 (N, subst (λ (x : ℕ). Answer (w .p) table (b .A) 0 x N) (sym e) a, n),
                 renumbered-restored order count N (renumberedOf (b .A) (number (b .A)) N) (k .in-order) (answer-own (w .p) table (b .A) N a) n,
               )
 
 -- what is kept stays as the table grows
 pub answers-stay : (p : Program) (table table′ answered : List ℕ) (n : ℕ) → ((r : ℕ) → r < n → (slotAt table′ r ≡ slotAt table r) × (maskAt table′ r ≡ maskAt table r))
     → KeepingAnswers p table answered n → KeepingAnswers p table′ answered n
-answers-stay p table table′ answered n same s =
-    record {
-      size = s .size;
-      known-within = s .known-within;
-      members = λ j l b q small. (
-        λ h. let a = s .members j l b q small .0 h in (a .0, over table table′ same (b .A) (answeredOf answered j) (a .0) (s .known-within j l b) (a .1), a .2),
-        λ a. s .members j l b q small .1 (a .0, over table′ table (λ r h. (sym (same r h .0), sym (same r h .1))) (b .A) (answeredOf answered j) (a .0) (s .known-within j l b) (a .1), a .2),
-      );
-    }
+answers-stay p table table′ answered n same s = record {
+  sets = keeping-for answerSet (KeptAtom p) (λ j atom. atom .0)
+      (λ j atom m q l. (
+        λ a. (a .0, over table table′ same (atom .1 .A) m (a .0) l (a .1), a .2),
+        λ a. (a .0, over table′ table (λ r h. (sym (same r h .0), sym (same r h .1))) (atom .1 .A) m (a .0) l (a .1), a .2),
+      ))
+      (s .sets);
+}
   where
     over : (t t′ : List ℕ) → ((r : ℕ) → r < n → (slotAt t′ r ≡ slotAt t r) × (maskAt t′ r ≡ maskAt t r)) → (A : Term) (to N : ℕ) → to ≤ n → Answer p t A 0 to N → Answer p t′ A 0 to N
     over t t′ same A to N le (r, f, l, s, S, hs, e, pass) =
@@ -186,7 +154,7 @@ answers-stay p table table′ answered n same s =
         (r, f, l, s, S, hs, e′ ∙ e, subst (λ (x : ℕ). Pass S x A 0 N) (sym m) pass)
 
 pub answers-later : (p : Program) (table answered : List ℕ) (n n′ : ℕ) → n ≤ n′ → KeepingAnswers p table answered n → KeepingAnswers p table answered n′
-answers-later p table answered n n′ l s = record { size = s .size; known-within = λ j h b. let k = s .known-within j h b in omega arith; members = s .members }
+answers-later p table answered n n′ b s = record { sets = keeping-later answerSet (KeptAtom p) (λ j atom. atom .0) b (s .sets) }
 
 -- the table of a step has the rows that are known
 pub step-keeps-answers : (p : Program) (ks : List ℕ) (round room n n′ rows : ℕ) (table buckets table′ buckets′ answered : List ℕ) (Must : ℕ → Type 0) → rows ≤ n
@@ -196,16 +164,5 @@ step-keeps-answers p ks round room n n′ rows table buckets table′ buckets′
     answers-stay p table table′ answered rows (λ r h. (g .same-rows (rowSize * r + 1) (omega arith), g .same-rows (rowSize * r + 2) (omega arith)))
 
 -- with all words 0 nothing is kept, of no rows
-pub answers-none : (p : Program) (table answered : List ℕ) (n : ℕ) → answered ≡ replicate answerWords 0 → KeepingAnswers p table answered n
-answers-none p table answered n e =
-    record {
-      size = ap length e ∙ length-replicate {A = ℕ} answerWords 0;
-      known-within = λ j l b. omega (arith, zero j l);
-      members = λ j l b q small. (
-        λ h. absurd (none-in-zeros answerWords (answerMasks * j + q) (subst (λ (x : List ℕ). InSet x (answerMasks * j + q)) e h)),
-        λ a. absurd (omega (arith, zero j l, a .1 .2)),
-      );
-    }
-  where
-    zero : (j : ℕ) → j < answerAtoms → answeredOf answered j ≡ 0
-    zero j l = ap (λ (x : List ℕ). getD x (answerRows + j) 0) e ∙ getD-replicate {A = ℕ} answerWords (answerRows + j) 0 0 (omega arith)
+pub answers-none : (p : Program) (table answered : List ℕ) (n : ℕ) → answered ≡ replicate (keptWords answerSet) 0 → KeepingAnswers p table answered n
+answers-none p table answered n e = record { sets = keeping-none answerSet (KeptAtom p) (λ j atom. atom .0) (AnswersTo p table) answered n (λ j atom q a. omega (arith, a .1 .2)) e }

@@ -1,22 +1,22 @@
-// The answers to body atoms that are kept between rounds: for each of the first atoms a set of 256 masks in the atom's own numbering, and of how many rows it has the answers.
-use marks::bits::mark;
+// The answers to body atoms that are kept between rounds: for each of the first atoms a set of masks in the atom's own numbering, and of how many rows it has the answers.
 use marks::rows::renumber;
 use marks::rows::restore;
-use rows::maskset::contains;
+use rows::keptset::THINGS;
+use rows::keptset::is_kept;
+use rows::keptset::keep_mask;
 use rows::maskset::insert;
 use terms::walk::narrow;
-use terms::walk::wide;
-ghost use Prim.Native.Nat.{_^_};
+ghost use Prim.Native.Nat.{_*_, _^_};
+ghost use Rattle.rows.specs.KeptSets.{Gained};
 ghost use Rattle.joining.specs.Answers.{Found};
-ghost use Rattle.joining.specs.KeptAnswers.{Gained, Ordered, Recalled, KeepAsked, RecallAsked};
-
-pub const ANSWER_ATOMS: usize = 64;
+ghost use Rattle.joining.specs.KeptAnswers.{answerSet, Ordered, Recalled, KeepAsked, RecallAsked};
 
 pub const ANSWER_VARS: usize = 8;
 
-const ANSWER_MASKS: usize = 256;
+const ANSWER_SET: usize = 16;
 
-pub const ANSWER_ROWS: usize = 16 * ANSWER_ATOMS;
+// Behind the sets, for each atom, of how many rows they have the answers.
+pub const ANSWER_ROWS: usize = ANSWER_SET * THINGS;
 
 // The first `upto` answers, beside those that are kept for body atom j.
 pub fn keep_answers(
@@ -28,13 +28,11 @@ pub fn keep_answers(
     answered: &mut [u16],
 )
     requires { ⌜ KeepAsked (now order) (now answers) (now answered) count upto j ⌝ }
-    ensures { λ _. ⌜ Gained (Ordered (now (order .entry)) count (now (answers .entry)) upto) j (now (answered .entry)) (now (answered .exit)) ⌝ }
+    ensures { λ _. ⌜ Gained (Ordered (now (order .entry)) count (now (answers .entry)) upto) (answerSet * j) answerSet (now (answered .entry)) (now (answered .exit)) ⌝ }
 {
     let mut i = 0;
     while i < upto {
-        let q = ANSWER_MASKS * j + wide(renumber(order, count, answers[i]));
-        let at = q / 16;
-        answered[at] = answered[at] | mark(q % 16);
+        keep_mask(answered, ANSWER_SET, j, renumber(order, count, answers[i]));
         i += 1;
     }
 }
@@ -56,7 +54,7 @@ pub fn recall_answers(
     let mut all = upto;
     let mut q = 0;
     while q < masks {
-        if contains(answered, narrow(ANSWER_MASKS * j + q)) {
+        if is_kept(answered, ANSWER_SET, j, narrow(q)) {
             let mask = restore(order, count, narrow(q));
             if insert(seen, mask) {
                 answers[all] = mask;

@@ -2,13 +2,13 @@
 use crate::answers::answers_to;
 use crate::answers::forget;
 use crate::answers::settle;
-use crate::kept::ANSWER_ATOMS;
 use crate::kept::ANSWER_ROWS;
 use crate::kept::ANSWER_VARS;
 use crate::kept::keep_answers;
 use crate::kept::recall_answers;
 use directory::layout::BODY_CELLS;
 use directory::layout::BODY_START;
+use rows::keptset::THINGS;
 use steps::meet::order_of;
 use terms::walk::narrow;
 use terms::walk::wide;
@@ -144,7 +144,7 @@ pub fn list_answers<'a>(
         × ((w : Situation (now (words .entry)) (now (dir .entry)) (now (table .entry)) (now (heads .entry)) since before) (b : BodyOf (w .p) j)
         → Answered (w .p) (now (table .entry)) (b .A) since before newest (now (answers .exit)) (r .fresh) (r .all)) ⌝ }
 {
-    if j < ANSWER_ATOMS {
+    if j < THINGS {
         let from = wide(dir[BODY_START + j]);
         let to = from + wide(dir[BODY_CELLS + j]);
         let mut order = [0u8; 16];

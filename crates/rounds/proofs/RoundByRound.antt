@@ -38,10 +38,10 @@ use Rattle.steps.specs.Steps.{RowsIn, Given, Writable, Grew, Overfull}
 use Rattle.steps.specs.Situation.{Setting, Situation}
 use Rattle.rounds.specs.Rounds.{InRounds, Complete}
 use Rattle.steps.proofs.Stepping.{keys-stay}
-use Rattle.ends.specs.Keeping.{Keeping}
+use Rattle.ends.specs.Keeping.{KeepingMarks}
 use Rattle.joining.specs.KeptAnswers.{KeepingAnswers}
 use Rattle.joining.proofs.KeptPlaces.{answers-stay}
-use Rattle.ends.proofs.KeptMarks.{keeping-stays}
+use Rattle.ends.proofs.KeptMarks.{marks-stay}
 
 -- the rows so far are those of round k, those before `since` the rows of the round before
 pub record Rounding (p : Program) (table buckets heads : List ℕ) (room since rows number : ℕ) : Type 0 where
@@ -79,11 +79,11 @@ module _ (p : Program) (T₀ T T₀′ T′ : Row ℕ → Type 0) (more : Within
       (k, inr (inr (N, on-head hc (reached-within modes p T T′ more reached), s, C, (more _ called, λ x. n (fewer _ x)), ends)))
 
 -- what is kept of the rows stays when they are linked
-pub linked-keeps : (p : Program) (table table′ heads′ kept : List ℕ) {since rows : ℕ} → Linked table since rows table′ heads′
-    → Keeping p table kept rows (keysOf table rows) → Keeping p table′ kept rows (keysOf table′ rows)
-linked-keeps p table table′ heads′ kept {since} {rows} linked =
+pub linked-keeps : {words dir : List ℕ} {p : Program} → Setting words dir p → (table table′ heads′ kept : List ℕ) {since rows : ℕ} → Linked table since rows table′ heads′
+    → KeepingMarks p table kept rows (keysOf table rows) → KeepingMarks p table′ kept rows (keysOf table′ rows)
+linked-keeps setting table table′ heads′ kept {since} {rows} linked =
     let same = befores-keys since rows table table′ (linked .only-befores) in
-    keeping-stays p table table′ kept rows (keysOf table rows) (keysOf table′ rows) (λ m l. same m) (λ key h. rw (same rows) h)
+    marks-stay setting table table′ kept rows (keysOf table rows) (keysOf table′ rows) (λ m l. same m) (λ key h. rw (same rows) h)
 
 pub linked-keeps-answers : (p : Program) (table table′ heads′ answered : List ℕ) {since rows : ℕ} → Linked table since rows table′ heads′
     → KeepingAnswers p table answered rows → KeepingAnswers p table′ answered rows

@@ -14,10 +14,10 @@ use Rattle.table.specs.RoundKeys.{Keyed}
 use Rattle.steps.specs.Steps.{RowsIn, Writable, Grew, Stepped}
 use Rattle.steps.specs.Situation.{Setting, Situation}
 use Rattle.joining.specs.KeptAnswers.{KeepsAnswers}
-use Rattle.ends.specs.Keeping.{Keeps}
+use Rattle.ends.specs.Keeping.{KeepsMarks}
 use Rattle.rounds.specs.Rounds.{Finished}
 use Rattle.joining.proofs.KeptPlaces.{answers-later}
-use Rattle.ends.proofs.KeptMarks.{keeping-later}
+use Rattle.ends.proofs.KeptMarks.{marks-later}
 use Rattle.steps.proofs.Stepping.{stepped-within, stepped-past}
 use Rattle.rounds.proofs.RoundByRound.{Rounding, strictly, linked-situation, linked-writable, linked-keeps, linked-keeps-answers, rounds-overfull, rounds-stop, rounds-next}
 
@@ -41,8 +41,8 @@ module _ {words dir table buckets heads table′ heads′ : List ℕ} {room sinc
     pub turn-writable : Writable table′ buckets rows room
     turn-writable = linked-writable words dir p st table buckets heads room since rows number (t .each p st) table′ heads′ (t .linked) (t .same-length) (t .same-heads)
 
-  pub turn-keeps : (kept : List ℕ) → Keeps words dir table kept rows rows → Keeps words dir table′ kept rows rows
-  turn-keeps kept keeps p st = linked-keeps p table table′ heads′ kept (t .linked) (keeps p st)
+  pub turn-keeps : (kept : List ℕ) → KeepsMarks words dir table kept rows rows → KeepsMarks words dir table′ kept rows rows
+  turn-keeps kept keeps p st = linked-keeps st table table′ heads′ kept (t .linked) (keeps p st)
 
   pub turn-keeps-answers : (answered : List ℕ) → KeepsAnswers words dir table answered rows → KeepsAnswers words dir table′ answered rows
   turn-keeps-answers answered keeps p st = linked-keeps-answers p table table′ heads′ answered (t .linked) (keeps p st)
@@ -76,12 +76,12 @@ module _ {words dir table buckets heads table′ heads′ : List ℕ} {room sinc
         pub turn-less : (p : Program) → Setting words dir p → room - next < room - rows
         turn-less p st = let l : rows < next = strictly rows next (turn-grew p st .more) differ in omega arith
 
-        pub turn-again : (kept answered : List ℕ) → Keeps words dir table″ kept rows next → KeepsAnswers words dir table″ answered rows
+        pub turn-again : (kept answered : List ℕ) → KeepsMarks words dir table″ kept rows next → KeepsAnswers words dir table″ answered rows
             → ((p : Program) → Setting words dir p → Rounding p table″ buckets″ heads′ room rows next (number + 1))
-            × Keeps words dir table″ kept next next × KeepsAnswers words dir table″ answered next
+            × KeepsMarks words dir table″ kept next next × KeepsAnswers words dir table″ answered next
         turn-again kept answered keeps answers = (
           λ p st.
               rounds-next words dir p st table buckets heads room since rows number (t .each p st) table′ heads′ (t .linked) (t .same-length) (t .same-heads) next table″ buckets″ (turn-grew p st) differ,
-          λ p st. keeping-later p table″ kept rows next (turn-grew p st .more) (keeps p st),
+          λ p st. marks-later st table″ kept rows next (turn-grew p st .more) (keeps p st),
           λ p st. answers-later p table″ answered rows next (turn-grew p st .more) (answers p st),
         )

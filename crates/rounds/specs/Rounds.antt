@@ -12,6 +12,7 @@ use Rattle.rows.specs.Rows.{slots, buckets as bucketCount, roundAt, keyAt, keys
 use Rattle.table.specs.Rules.{Row}
 use Rattle.table.specs.NewRows.{New}
 use Rattle.table.specs.Rounds.{At, First}
+use Rattle.rows.specs.KeptSets.{keptWords}
 use Rattle.table.specs.Table.{MoreThan}
 use Rattle.table.specs.Keys.{rowOf}
 use Rattle.table.specs.RoundKeys.{RoundKeys}
@@ -20,8 +21,8 @@ use Rattle.steps.specs.Steps.{RowsIn}
 use Rattle.steps.specs.Unifiers.{Room}
 use Rattle.concerns.specs.Active.{Concerns}
 use Rattle.ends.specs.Ends.{Scratch}
-use Rattle.joining.specs.KeptAnswers.{answerWords}
-use Rattle.ends.specs.Keeping.{keptWords}
+use Rattle.joining.specs.KeptAnswers.{answerSet}
+use Rattle.ends.specs.Keeping.{keptSet}
 
 -- "Round 0 has one row, the goal's call": nothing is there before it
 pub record RoundsAsked (words dir table buckets heads unifiers answers found kept answered : List ℕ) (room : ℕ) : Type 0 where
@@ -31,8 +32,8 @@ pub record RoundsAsked (words dir table buckets heads unifiers answers found kep
   pub no-heads : heads ≡ replicate slots 0
   pub room-for-notes : Room unifiers
   pub scratch : Scratch answers found
-  pub none-kept : kept ≡ replicate keptWords 0
-  pub none-answered : answered ≡ replicate answerWords 0
+  pub none-kept : kept ≡ replicate (keptWords keptSet) 0
+  pub none-answered : answered ≡ replicate (keptWords answerSet) 0
   pub room-most : room ≤ maxRows
   pub room-there : rowSize * room ≤ length table
 

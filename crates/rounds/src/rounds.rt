@@ -19,7 +19,7 @@ ghost use Rattle.steps.specs.Situation.{Setting, Situation, HeadAsked};
 ghost use Rattle.steps.specs.Steps.{RowsIn, Writable, Stepped};
 ghost use Rattle.steps.specs.Unifiers.{Room};
 ghost use Rattle.ends.specs.Ends.{Scratch};
-ghost use Rattle.ends.specs.Keeping.{Keeps};
+ghost use Rattle.ends.specs.Keeping.{KeepsMarks};
 ghost use Rattle.joining.specs.KeptAnswers.{KeepsAnswers};
 ghost use Rattle.rounds.specs.Rounds.{RoundsAsked, LookAsked, Finished};
 ghost use Rattle.concerns.specs.Active.{RoundAsked};
@@ -42,13 +42,13 @@ fn look<'a>(
     concerns: u64,
 ) -> usize
     requires { ⌜ LookAsked (now words) (now dir) (now table) (now heads) (at .since) (at .rows) k concerns × Writable (now table) (now buckets) n (at .room) × (at .rows ≤ n)
-        × Scratch (now answers) (now found) × Keeps (now words) (now dir) (now table) (now kept) (at .rows) n
+        × Scratch (now answers) (now found) × KeepsMarks (now words) (now dir) (now table) (now kept) (at .rows) n
         × KeepsAnswers (now words) (now dir) (now table) (now answered) (at .rows) × Room (now unifiers) ⌝ }
     ensures { λ r. ⌜ Scratch (now (answers .exit)) (now (found .exit))
         × ((w : HeadAsked (now (words .entry)) (now (dir .entry)) (now (table .entry)) (now (heads .entry)) (at .since) (at .rows) k)
         → Stepped (w .situation .p) (keysOf (now (table .entry)) (at .rows)) (at .number) (at .room) n (now (table .entry)) (now (buckets .entry))
         (Keyed (w .situation .p) (NewIn modes (w .situation .p) (RowsIn (w .situation .p) (keysOf (now (table .entry)) (at .since))) (RowsIn (w .situation .p) (keysOf (now (table .entry)) (at .rows))) k)) r (now (table .exit)) (now (buckets .exit)))
-        × (r ≤ at .room → Keeps (now (words .entry)) (now (dir .entry)) (now (table .exit)) (now (kept .exit)) (at .rows) r)
+        × (r ≤ at .room → KeepsMarks (now (words .entry)) (now (dir .entry)) (now (table .exit)) (now (kept .exit)) (at .rows) r)
         × (r ≤ at .room → KeepsAnswers (now (words .entry)) (now (dir .entry)) (now (table .exit)) (now (answered .exit)) (at .rows)) ⌝ }
 {
     if (concerns >> k) % 2 == 1 {
@@ -88,13 +88,13 @@ fn round<'a>(
     at: Round,
 ) -> usize
     requires { ⌜ RoundAsked (now words) (now dir) (now table) (now heads) (now headed) (now bodied) (at .since) (at .rows) × Writable (now table) (now buckets) (at .rows) (at .room)
-        × Scratch (now answers) (now found) × Keeps (now words) (now dir) (now table) (now kept) (at .rows) (at .rows)
+        × Scratch (now answers) (now found) × KeepsMarks (now words) (now dir) (now table) (now kept) (at .rows) (at .rows)
         × KeepsAnswers (now words) (now dir) (now table) (now answered) (at .rows) × Room (now unifiers) ⌝ }
     ensures { λ r. ⌜ Scratch (now (answers .exit)) (now (found .exit))
         × ((w : Situation (now (words .entry)) (now (dir .entry)) (now (table .entry)) (now (heads .entry)) (at .since) (at .rows))
         → Stepped (w .p) (keysOf (now (table .entry)) (at .rows)) (at .number) (at .room) (at .rows) (now (table .entry)) (now (buckets .entry))
         (Keyed (w .p) (NewGives modes (w .p) (RowsIn (w .p) (keysOf (now (table .entry)) (at .since))) (RowsIn (w .p) (keysOf (now (table .entry)) (at .rows))))) r (now (table .exit)) (now (buckets .exit)))
-        × (r ≤ at .room → Keeps (now (words .entry)) (now (dir .entry)) (now (table .exit)) (now (kept .exit)) (at .rows) r)
+        × (r ≤ at .room → KeepsMarks (now (words .entry)) (now (dir .entry)) (now (table .exit)) (now (kept .exit)) (at .rows) r)
         × (r ≤ at .room → KeepsAnswers (now (words .entry)) (now (dir .entry)) (now (table .exit)) (now (answered .exit)) (at .rows)) ⌝ }
 {
     let room = at.room;

@@ -6,4 +6,6 @@ pub mod Adding
 pub mod AddedRows
 pub mod Linking
 pub mod MaskSets
+pub mod KeptWords
+pub mod KeptSets
 pub mod ClearedMarks

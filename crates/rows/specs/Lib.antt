@@ -4,3 +4,4 @@ pub mod Chains
 pub mod Store
 pub mod Linked
 pub mod MaskSet
+pub mod KeptSets

@@ -12,7 +12,7 @@ pub const SET_WORDS: usize = 4096;
 const BITS: u16 = 16;
 
 // The word that has one bit alone.
-fn one_bit(b: u16) -> u16
+pub fn one_bit(b: u16) -> u16
     requires { ⌜ b < 16 ⌝ }
     ensures { λ r. ⌜ r ≡ 2 ^ b ⌝ }
 {

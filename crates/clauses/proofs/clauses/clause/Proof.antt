@@ -9,7 +9,7 @@ use Rattle.rows.specs.MaskSet.{setWords}
 use Rattle.steps.specs.Situation.{HeadAsked}
 use Rattle.steps.proofs.Stepping.{stepped-within, stepped-past}
 use Rattle.ends.proofs.ClauseRows.{clause-few, end-after, stands-on}
-use Rattle.ends.proofs.KeptMarks.{step-keeps, keeps-all}
+use Rattle.ends.proofs.KeptMarks.{step-keeps, keeps-marks}
 use Rattle.clauses.proofs.ClausePlaces.{places-asked, none-over, Past, no-places, clause-ends}
 use Rattle.joining.specs.KeptAnswers.{KeepsAnswers}
 use Rattle.clauses.proofs.clauses.clause.Statement.{statement}
@@ -109,8 +109,8 @@ end-clause-requires c κs =
       g .writable,
       omega (arith, s .pre .2, g .more),
       record { all-answers = size; none-found = none-found },
-      keeps-all _ _ _ (c .before .before .before .before .before .before .before .if1 .rows) (w .situation .setting)
-          (step-keeps _ _ (s .args .at .number) _ _ _ _ _ _ _ _ _ _ (s .pre .2) (inl g) (g .writable .within) (s .pre .4 (w .situation .p) (w .situation .setting))),
+      keeps-marks _ _ _ (c .before .before .before .before .before .before .before .if1 .rows) (w .situation .setting)
+          (step-keeps (w .situation .setting) _ (s .args .at .number) _ _ _ _ _ _ _ _ _ _ (s .pre .2) (inl g) (g .writable .within) (s .pre .4 (w .situation .p) (w .situation .setting))),
       answered,
       s .pre .6,
     )
@@ -136,7 +136,7 @@ same-length-11 c = c .before .before .before .before .before .before .before .be
 same-length-12 : tie.Need-same-length-12
 same-length-12 c =
     let w = c .before .before .before .before .before .before .before .before .before .before .before .before .before .before .before .before .before .before .before .before .before .before .before .before .before .before .before .before .before .before .before .before .before .before .before .before .before .pre .0 .situation in
-    c .before .before .before .before .before .before .before .before .before .before .before .before .before .before .end-clause .kept .1 .1 .1 .1 .1 .1 .1 .1 .1 .0 ∙ past (c .before .before .before .before .before .before .before .before .before .before .before .before .before .before .before .before .before .before .before .before .before .before) .3 (w .p) (w .setting) .size ∙ sym (c .before .before .before .before .before .before .before .before .before .before .before .before .before .before .before .before .before .before .before .before .before .before .before .before .before .before .before .before .before .before .before .before .before .before .before .before .before .pre .5 (w .p) (w .setting) .size)
+    c .before .before .before .before .before .before .before .before .before .before .before .before .before .before .end-clause .kept .1 .1 .1 .1 .1 .1 .1 .1 .1 .0 ∙ past (c .before .before .before .before .before .before .before .before .before .before .before .before .before .before .before .before .before .before .before .before .before .before) .3 (w .p) (w .setting) .sets .all-words ∙ sym (c .before .before .before .before .before .before .before .before .before .before .before .before .before .before .before .before .before .before .before .before .before .before .before .before .before .before .before .before .before .before .before .before .before .before .before .before .before .pre .5 (w .p) (w .setting) .sets .all-words)
 
 returns-2 : tie.Need-returns-2
 returns-2 c =

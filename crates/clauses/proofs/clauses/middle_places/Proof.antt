@@ -56,7 +56,7 @@ same-length-4 c = c .before .before .before .before .before .before .before .bef
 same-length-5 : tie.Need-same-length-5 Inv-loop μ-loop
 same-length-5 c =
     let w = c .before .before .before .before .before .before .before .before .before .before .before .before .before .before .before .before .before .before .before .before .before .before .before .before .before .before .before .pre .0 .situation in
-    c .before .before .before .before .before .before .before .before .before .before .before .middle-place .ensures .1 (w .p) (w .setting) .size ∙ sym (c .before .before .before .before .before .before .before .before .before .before .before .before .before .before .before .before .before .before .before .before .before .before .before .before .before .before .before .pre .5 (w .p) (w .setting) .size)
+    c .before .before .before .before .before .before .before .before .before .before .before .middle-place .ensures .1 (w .p) (w .setting) .sets .all-words ∙ sym (c .before .before .before .before .before .before .before .before .before .before .before .before .before .before .before .before .before .before .before .before .before .before .before .before .before .before .before .pre .5 (w .p) (w .setting) .sets .all-words)
 
 returns : tie.Need-returns Inv-loop μ-loop
 returns c = let s = c .before .before .before .before .before .before .before .before .before .before .before .before .before .before .before .before .before .before .before .before .before .before .before .before .before .before .before in let inv = c .before .before .before .before .before .before .before .before .before .before .before .before .before .before .before .before .before .before .loop .inv in (
@@ -104,7 +104,7 @@ same-length-9 c = c .before .loop .inv .5
 same-length-10 : tie.Need-same-length-10 Inv-loop μ-loop
 same-length-10 c =
     let w = c .before .before .before .before .before .before .before .before .before .before .pre .0 .situation in
-    c .before .loop .inv .8 (w .p) (w .setting) .size ∙ sym (c .before .before .before .before .before .before .before .before .before .before .pre .5 (w .p) (w .setting) .size)
+    c .before .loop .inv .8 (w .p) (w .setting) .sets .all-words ∙ sym (c .before .before .before .before .before .before .before .before .before .before .pre .5 (w .p) (w .setting) .sets .all-words)
 
 returns-2 : tie.Need-returns-2 Inv-loop μ-loop
 returns-2 c = let s = c .before .before .before .before .before .before .before .before .before .before in let inv = c .before .loop .inv in

@@ -3,7 +3,7 @@ use native.Mathlib.Omega.{arith}
 use borrow.Author.Needs.{needs}
 use mathlib.Core.Path.{_∙_}
 use Rattle.ends.proofs.ClauseRows.{clause-few}
-use Rattle.ends.proofs.KeptMarks.{step-keeps, keeps-all}
+use Rattle.ends.proofs.KeptMarks.{step-keeps, keeps-marks}
 use Rattle.clauses.proofs.ending.end_clause.Statement.{statement}
 use Rattle.clauses.proofs.ending.end_clause.Tie as tie
 
@@ -76,7 +76,7 @@ returns-2 c =
     let w = s .pre .0 in (
       c .before .before .before .before .before .before .before .before .before .before .before .before .end-wide .ensures .0,
       c .before .before .before .before .before .before .before .before .before .before .before .before .end-wide .ensures .1,
-      λ l. keeps-all _ _ _ (c .before .before .before .before .before .before .before .before .before .before .before .before .end-wide .result) (w .situation .setting) (step-keeps _ _ (s .args .at .number) _ _ _ _ _ _ _ _ _ _ (s .pre .2) (c .before .before .before .before .before .before .before .before .before .before .before .before .end-wide .ensures .1 w) l (s .pre .4 (w .situation .p) (w .situation .setting))),
+      λ l. keeps-marks _ _ _ (c .before .before .before .before .before .before .before .before .before .before .before .before .end-wide .result) (w .situation .setting) (step-keeps (w .situation .setting) _ (s .args .at .number) _ _ _ _ _ _ _ _ _ _ (s .pre .2) (c .before .before .before .before .before .before .before .before .before .before .before .before .end-wide .ensures .1 w) l (s .pre .4 (w .situation .p) (w .situation .setting))),
       c .before .before .before .before .before .before .before .before .before .before .before .before .end-wide .ensures .2,
     )
 

@@ -23,17 +23,11 @@ shl-masks c = omega (arith, c .before .before .before .pre .kept .few)
 loop-holds : tie.Need-loop-holds Inv-loop μ-loop
 loop-holds c = (omega (arith, few-masks (c .before .before .before .pre .kept)), omega arith, recall-none (c .before .before .before .pre))
 
-mul-narrow : tie.Need-mul-narrow Inv-loop μ-loop
-mul-narrow c = omega (arith, c .before .before .before .before .before .pre .kept .near)
-
-add-narrow : tie.Need-add-narrow Inv-loop μ-loop
-add-narrow c = omega (arith, c .before .before .before .before .before .pre .kept .near, few-masks (c .before .before .before .before .before .pre .kept), c .before .loop .inv .0, c .loop-test .taken)
-
 narrow-requires : tie.Need-narrow-requires Inv-loop μ-loop
 narrow-requires c κs = omega (arith, c .before .before .before .before .before .pre .kept .near, few-masks (c .before .before .before .before .before .pre .kept), c .before .loop .inv .0, c .loop-test .taken)
 
-contains-requires : tie.Need-contains-requires Inv-loop μ-loop
-contains-requires c κs = rw (c .narrow .ensures) (omega (arith, c .before .before .before .before .before .before .pre .kept .near, few-masks (c .before .before .before .before .before .before .pre .kept), c .before .before .loop .inv .0, c .before .loop-test .taken, c .before .before .before .before .before .before .pre .size))
+is-kept-requires : tie.Need-is-kept-requires Inv-loop μ-loop
+is-kept-requires c κs = rw (c .narrow .ensures) (omega (arith, c .before .before .before .before .before .before .pre .kept .near, few-masks (c .before .before .before .before .before .before .pre .kept), c .before .before .loop .inv .0, c .before .loop-test .taken, c .before .before .before .before .before .before .pre .size))
 
 narrow-requires-2 : tie.Need-narrow-requires-2 Inv-loop μ-loop
 narrow-requires-2 c κs = omega (arith, c .before .before .before .before .before .before .before .before .pre .kept .near, few-masks (c .before .before .before .before .before .before .before .before .pre .kept), c .before .before .before .before .loop .inv .0, c .before .before .before .loop-test .taken)
@@ -63,7 +57,7 @@ loop-again : tie.Need-loop-again Inv-loop μ-loop
 loop-again c =
     let w = c .before .before .before .before .before .before .before .before .pre in
     let f = c .before .before .before .before .loop .inv .2 in
-    let in-set = c .before .contains .ensures in
+    let in-set = c .before .is-kept .ensures in
     let bit = c .before .before .narrow .ensures in (
       c .before .before .before .before .loop .inv .0,
       omega (arith, c .before .before .before .loop-test .taken),
@@ -94,10 +88,8 @@ recall-answers-spec =
     μ-loop
     shl-masks
     loop-holds
-    mul-narrow
-    add-narrow
     narrow-requires
-    contains-requires
+    is-kept-requires
     narrow-requires-2
     restore-requires
     insert-requires

@@ -19,7 +19,7 @@ mul-wide : tie.Need-mul-wide
 mul-wide c = omega (arith, c .before .before .before .before .before .before .before .pre .0 .kept (c .before .before .before .before .before .before .before .pre .0 .situation) (c .before .before .before .before .before .before .before .pre .0 .body) .near)
 
 slice-read-wide : tie.Need-slice-read-wide
-slice-read-wide c = omega (arith, c .before .before .before .before .before .before .before .before .pre .0 .kept (c .before .before .before .before .before .before .before .before .pre .0 .situation) (c .before .before .before .before .before .before .before .before .pre .0 .body) .near, c .before .before .before .before .before .before .before .before .pre .3 (c .before .before .before .before .before .before .before .before .pre .0 .situation .p) (c .before .before .before .before .before .before .before .before .pre .0 .situation .setting) .size)
+slice-read-wide c = omega (arith, c .before .before .before .before .before .before .before .before .pre .0 .kept (c .before .before .before .before .before .before .before .before .pre .0 .situation) (c .before .before .before .before .before .before .before .before .pre .0 .body) .near, c .before .before .before .before .before .before .before .before .pre .3 (c .before .before .before .before .before .before .before .before .pre .0 .situation .p) (c .before .before .before .before .before .before .before .before .pre .0 .situation .setting) .sets .all-words)
 
 wide-requires : tie.Need-wide-requires
 wide-requires c κs = search needs
@@ -41,7 +41,7 @@ keep-answers-requires c κs =
       A = pre .0 .body .A;
       kept = pre .0 .kept (pre .0 .situation) (pre .0 .body);
       within = listing-within (c .before .before .before .before .before .before .settle .ensures .listing);
-      size = pre .3 (pre .0 .situation .p) (pre .0 .situation .setting) .size;
+      size = pre .3 (pre .0 .situation .p) (pre .0 .situation .setting) .sets .all-words;
     }
 
 narrow-requires : tie.Need-narrow-requires
@@ -51,7 +51,7 @@ mul-answered : tie.Need-mul-answered
 mul-answered c = omega (arith, c .before .before .before .before .before .before .before .before .before .before .before .before .before .before .before .before .before .before .before .before .before .before .before .before .before .before .before .before .before .before .pre .0 .kept (c .before .before .before .before .before .before .before .before .before .before .before .before .before .before .before .before .before .before .before .before .before .before .before .before .before .before .before .before .before .before .pre .0 .situation) (c .before .before .before .before .before .before .before .before .before .before .before .before .before .before .before .before .before .before .before .before .before .before .before .before .before .before .before .before .before .before .pre .0 .body) .near)
 
 slice-write-answered : tie.Need-slice-write-answered
-slice-write-answered c = omega (arith, c .before .before .before .before .before .before .before .before .before .before .before .before .before .before .before .before .before .before .before .before .before .before .before .before .before .before .before .before .before .before .pre .0 .kept (c .before .before .before .before .before .before .before .before .before .before .before .before .before .before .before .before .before .before .before .before .before .before .before .before .before .before .before .before .before .before .pre .0 .situation) (c .before .before .before .before .before .before .before .before .before .before .before .before .before .before .before .before .before .before .before .before .before .before .before .before .before .before .before .before .before .before .pre .0 .body) .near, c .before .before .before .keep-answers .ensures .size, c .before .before .before .before .before .before .before .before .before .before .before .before .before .before .before .before .before .before .before .before .before .before .before .before .before .before .before .before .before .before .pre .3 (c .before .before .before .before .before .before .before .before .before .before .before .before .before .before .before .before .before .before .before .before .before .before .before .before .before .before .before .before .before .before .pre .0 .situation .p) (c .before .before .before .before .before .before .before .before .before .before .before .before .before .before .before .before .before .before .before .before .before .before .before .before .before .before .before .before .before .before .pre .0 .situation .setting) .size)
+slice-write-answered c = omega (arith, c .before .before .before .before .before .before .before .before .before .before .before .before .before .before .before .before .before .before .before .before .before .before .before .before .before .before .before .before .before .before .pre .0 .kept (c .before .before .before .before .before .before .before .before .before .before .before .before .before .before .before .before .before .before .before .before .before .before .before .before .before .before .before .before .before .before .pre .0 .situation) (c .before .before .before .before .before .before .before .before .before .before .before .before .before .before .before .before .before .before .before .before .before .before .before .before .before .before .before .before .before .before .pre .0 .body) .near, c .before .before .before .keep-answers .ensures .as-long, c .before .before .before .before .before .before .before .before .before .before .before .before .before .before .before .before .before .before .before .before .before .before .before .before .before .before .before .before .before .before .pre .3 (c .before .before .before .before .before .before .before .before .before .before .before .before .before .before .before .before .before .before .before .before .before .before .before .before .before .before .before .before .before .before .pre .0 .situation .p) (c .before .before .before .before .before .before .before .before .before .before .before .before .before .before .before .before .before .before .before .before .before .before .before .before .before .before .before .before .before .before .pre .0 .situation .setting) .sets .all-words)
 
 recall-answers-requires : tie.Need-recall-answers-requires
 recall-answers-requires c κs =
@@ -65,7 +65,7 @@ recall-answers-requires c κs =
       kept = pre .0 .kept w b;
       listing = found .listing;
       own = λ N m. answer-own (w .p) (c .before .before .before .before .before .before .before .before .before .before .before .before .before .before .before .before .before .before .before .before .before .before .before .before .before .before .before .before .before .before .before .before .before .before .args .table .now) (b .A) N (since-known (w .p) (c .before .before .before .before .before .before .before .before .before .before .before .before .before .before .before .before .before .before .before .before .before .before .before .before .before .before .before .before .before .before .before .before .before .before .args .table .now) (b .A) _ _ _ (c .before .before .before .before .before .before .before .before .before .before .before .before .before .before .before .before .before .before .before .before .before .answers-to .ensures w b) found (w .chains .new) ordered .are N .0 m);
-      size = rw length-set (c .before .before .before .before .before .before .before .keep-answers .ensures .size ∙ pre .3 (w .p) (w .setting) .size);
+      size = rw length-set (c .before .before .before .before .before .before .before .keep-answers .ensures .as-long ∙ pre .3 (w .p) (w .setting) .sets .all-words);
     }
 
 forget-requires : tie.Need-forget-requires

@@ -13,7 +13,7 @@ use Rattle.table.specs.RoundKeys.{Keyed}
 use Rattle.steps.specs.Situation.{Situation}
 use Rattle.steps.specs.Steps.{RowsIn, Grew}
 use Rattle.ends.specs.Ends.{Scratch}
-use Rattle.ends.specs.Keeping.{Keeps}
+use Rattle.ends.specs.Keeping.{KeepsMarks}
 use Rattle.joining.specs.KeptAnswers.{KeepsAnswers}
 use Rattle.steps.proofs.Stepping.{stepped-within, stepped-past}
 use Rattle.steps.proofs.NotedUnifiers.{room-stays}
@@ -28,7 +28,7 @@ Inv-loop words dir table₀ buckets₀ heads unifiers₀ answers₀ found₀ kep
     × ((w : Situation words dir table₀ heads (at .since) (at .rows))
     → Grew (w .p) (keysOf table₀ (at .rows)) (at .number) (at .room) (at .rows) table₀ buckets₀
     (Below (λ k. Keyed (w .p) (NewIn modes (w .p) (RowsIn (w .p) (keysOf table₀ (at .since))) (RowsIn (w .p) (keysOf table₀ (at .rows))) k)) k) rows table buckets)
-    × (length kept ≡ length kept₀) × Keeps words dir table kept (at .rows) rows × KeepsAnswers words dir table answered (at .rows)
+    × (length kept ≡ length kept₀) × KeepsMarks words dir table kept (at .rows) rows × KeepsAnswers words dir table answered (at .rows)
 
 abbrev μ-loop : tie.MeasureT-loop
 μ-loop words dir table₀ buckets₀ heads unifiers₀ answers₀ found₀ kept₀ answered₀ headed bodied at room clauses concerns rows₀ k₀ table buckets unifiers answers found kept answered rows k = clauses - k
@@ -75,7 +75,7 @@ same-length-6 c = c .before .before .before .before .before .before .before .bef
 same-length-7 : tie.Need-same-length-7 Inv-loop μ-loop
 same-length-7 c =
     let w = c .before .before .before .before .before .before .before .before .before .before .before .before .before .before .before .before .before .before .before .before .before .before .before .before .before .before .before .before .before .before .before .before .before .before .before .before .before .before .before .before .before .pre .0 .situation in
-    c .before .before .before .before .before .before .before .before .before .before .before .before .before .before .before .look .kept .1 .1 .1 .1 .1 .1 .1 .1 .1 .0 ∙ c .before .before .before .before .before .before .before .before .before .before .before .before .before .before .before .before .before .before .before .before .before .before .before .before .loop .inv .11 (w .p) (w .setting) .size ∙ sym (c .before .before .before .before .before .before .before .before .before .before .before .before .before .before .before .before .before .before .before .before .before .before .before .before .before .before .before .before .before .before .before .before .before .before .before .before .before .before .before .before .before .pre .4 (w .p) (w .setting) .size)
+    c .before .before .before .before .before .before .before .before .before .before .before .before .before .before .before .look .kept .1 .1 .1 .1 .1 .1 .1 .1 .1 .0 ∙ c .before .before .before .before .before .before .before .before .before .before .before .before .before .before .before .before .before .before .before .before .before .before .before .before .loop .inv .11 (w .p) (w .setting) .sets .all-words ∙ sym (c .before .before .before .before .before .before .before .before .before .before .before .before .before .before .before .before .before .before .before .before .before .before .before .before .before .before .before .before .before .before .before .before .before .before .before .before .before .before .before .before .before .pre .4 (w .p) (w .setting) .sets .all-words)
 
 returns : tie.Need-returns Inv-loop μ-loop
 returns c = let s = c .before .before .before .before .before .before .before .before .before .before .before .before .before .before .before .before .before .before .before .before .before .before .before .before .before .before .before .before .before .before .before .before .before .before .before .before .before .before .before .before .before in let inv = c .before .before .before .before .before .before .before .before .before .before .before .before .before .before .before .before .before .before .before .before .before .before .before .before .loop .inv in
@@ -130,7 +130,7 @@ same-length-13 c = c .before .loop .inv .9
 same-length-14 : tie.Need-same-length-14 Inv-loop μ-loop
 same-length-14 c =
     let w = c .before .before .before .before .before .before .before .before .before .before .before .before .before .before .before .before .before .before .pre .0 .situation in
-    c .before .loop .inv .11 (w .p) (w .setting) .size ∙ sym (c .before .before .before .before .before .before .before .before .before .before .before .before .before .before .before .before .before .before .pre .4 (w .p) (w .setting) .size)
+    c .before .loop .inv .11 (w .p) (w .setting) .sets .all-words ∙ sym (c .before .before .before .before .before .before .before .before .before .before .before .before .before .before .before .before .before .before .pre .4 (w .p) (w .setting) .sets .all-words)
 
 returns-2 : tie.Need-returns-2 Inv-loop μ-loop
 returns-2 c = let inv = c .before .loop .inv in (

@@ -9,10 +9,11 @@ use Rattle.program.specs.Program.{Program}
 use Rattle.rows.proofs.Adding.{empty-store}
 use Rattle.steps.specs.Situation.{Setting}
 use Rattle.ends.specs.Ends.{Scratch}
-use Rattle.ends.specs.Keeping.{Keeps}
-use Rattle.joining.specs.KeptAnswers.{answerWords, KeepsAnswers}
+use Rattle.ends.specs.Keeping.{KeepsMarks}
+use Rattle.rows.specs.KeptSets.{keptWords}
+use Rattle.joining.specs.KeptAnswers.{answerSet, KeepsAnswers}
 use Rattle.joining.proofs.KeptPlaces.{answers-none}
-use Rattle.ends.proofs.KeptMarks.{keeping-none}
+use Rattle.ends.proofs.KeptMarks.{marks-none}
 use Rattle.steps.proofs.NotedUnifiers.{room-stays}
 use Rattle.rounds.proofs.RoundByRound.{Rounding, no-room, no-room-by-one, round-zero-there}
 use Rattle.rounds.proofs.RoundTurns.{turn, turn-situation, turn-writable, turn-keeps, turn-keeps-answers, turn-over, turn-last, turn-less, turn-again}
@@ -23,7 +24,7 @@ abbrev Inv-loop : tie.InvT-loop
 Inv-loop words dir table₀ buckets₀ heads₀ unifiers₀ answers₀ found₀ kept₀ answered₀ room headed bodied rows₀ since₀ number₀ table buckets heads unifiers answers found kept answered rows since number =
     (length table ≡ length table₀) × (length buckets ≡ length buckets₀) × (length heads ≡ length heads₀) × (length unifiers ≡ length unifiers₀) × (length answers ≡ length answers₀)
     × (length found ≡ length found₀) × Scratch answers found × ((p : Program) → Setting words dir p → Rounding p table buckets heads room since rows number)
-    × (length kept ≡ length kept₀) × Keeps words dir table kept rows rows × KeepsAnswers words dir table answered rows
+    × (length kept ≡ length kept₀) × KeepsMarks words dir table kept rows rows × KeepsAnswers words dir table answered rows
 
 abbrev μ-loop : tie.MeasureT-loop
 μ-loop words dir table₀ buckets₀ heads₀ unifiers₀ answers₀ found₀ kept₀ answered₀ room headed bodied rows₀ since₀ number₀ table buckets heads unifiers answers found kept answered rows since number = room - rows
@@ -68,7 +69,7 @@ loop-holds c = let s = c .before .before .before .before .before .before .before
   s .pre .scratch,
   λ p st. round-zero-there _ _ p st _ _ _ _ _ _ _ _ (st .directory .goal-ground) (c .before .before .before .before .before .add .ensures) (c .if1 .left) (s .pre .room-most) (rw (c .before .before .before .before .before .add .kept .0) (s .pre .room-there)) (s .pre .no-heads),
   refl,
-  λ p st. keeping-none p _ _ _ (s .pre .none-kept),
+  λ p st. marks-none st _ _ _ (s .pre .none-kept),
   λ p st. answers-none p _ _ _ (s .pre .none-answered),
 )
 
@@ -121,7 +122,7 @@ same-length-9 : tie.Need-same-length-9 Inv-loop μ-loop
 same-length-9 c = c .before .before .before .before .before .before .before .before .before .before .before .before .before .before .before .round .kept .1 .1 .1 .1 .1 .1 .1 .1 .0 ∙ c .before .before .before .before .before .before .before .before .before .before .before .before .before .before .before .before .before .before .before .before .before .before .before .before .before .before .before .before .before .before .before .before .before .loop .inv .8
 
 same-length-10 : tie.Need-same-length-10 Inv-loop μ-loop
-same-length-10 c = c .before .before .before .before .before .before .before .before .before .before .before .before .before .before .before .round .kept .1 .1 .1 .1 .1 .1 .1 .1 .1 .0 ∙ c .before .before .before .before .before .before .before .before .before .before .before .before .before .before .before .before .before .before .before .before .before .before .before .before .before .before .before .before .before .before .before .before .before .loop .inv .10 (c .before .before .before .before .before .before .before .before .before .before .before .before .before .before .before .before .before .before .before .before .before .before .before .before .before .before .before .before .before .before .before .before .before .before .before .before .before .before .before .before .before .before .before .before .before .before .before .before .before .before .before .before .before .before .before .before .before .before .before .pre .p) (c .before .before .before .before .before .before .before .before .before .before .before .before .before .before .before .before .before .before .before .before .before .before .before .before .before .before .before .before .before .before .before .before .before .before .before .before .before .before .before .before .before .before .before .before .before .before .before .before .before .before .before .before .before .before .before .before .before .before .before .pre .setting) .size ∙ sym (ap length (c .before .before .before .before .before .before .before .before .before .before .before .before .before .before .before .before .before .before .before .before .before .before .before .before .before .before .before .before .before .before .before .before .before .before .before .before .before .before .before .before .before .before .before .before .before .before .before .before .before .before .before .before .before .before .before .before .before .before .before .pre .none-answered) ∙ length-replicate {A = ℕ} answerWords 0)
+same-length-10 c = c .before .before .before .before .before .before .before .before .before .before .before .before .before .before .before .round .kept .1 .1 .1 .1 .1 .1 .1 .1 .1 .0 ∙ c .before .before .before .before .before .before .before .before .before .before .before .before .before .before .before .before .before .before .before .before .before .before .before .before .before .before .before .before .before .before .before .before .before .loop .inv .10 (c .before .before .before .before .before .before .before .before .before .before .before .before .before .before .before .before .before .before .before .before .before .before .before .before .before .before .before .before .before .before .before .before .before .before .before .before .before .before .before .before .before .before .before .before .before .before .before .before .before .before .before .before .before .before .before .before .before .before .before .pre .p) (c .before .before .before .before .before .before .before .before .before .before .before .before .before .before .before .before .before .before .before .before .before .before .before .before .before .before .before .before .before .before .before .before .before .before .before .before .before .before .before .before .before .before .before .before .before .before .before .before .before .before .before .before .before .before .before .before .before .before .before .pre .setting) .sets .all-words ∙ sym (ap length (c .before .before .before .before .before .before .before .before .before .before .before .before .before .before .before .before .before .before .before .before .before .before .before .before .before .before .before .before .before .before .before .before .before .before .before .before .before .before .before .before .before .before .before .before .before .before .before .before .before .before .before .before .before .before .before .before .before .before .before .pre .none-answered) ∙ length-replicate {A = ℕ} (keptWords answerSet) 0)
 
 returns-2 : tie.Need-returns-2 Inv-loop μ-loop
 returns-2 c =
@@ -150,7 +151,7 @@ same-length-17 : tie.Need-same-length-17 Inv-loop μ-loop
 same-length-17 c = c .before .before .before .before .before .before .before .before .before .before .before .before .before .before .before .before .round .kept .1 .1 .1 .1 .1 .1 .1 .1 .0 ∙ c .before .before .before .before .before .before .before .before .before .before .before .before .before .before .before .before .before .before .before .before .before .before .before .before .before .before .before .before .before .before .before .before .before .before .loop .inv .8
 
 same-length-18 : tie.Need-same-length-18 Inv-loop μ-loop
-same-length-18 c = c .before .before .before .before .before .before .before .before .before .before .before .before .before .before .before .before .round .kept .1 .1 .1 .1 .1 .1 .1 .1 .1 .0 ∙ c .before .before .before .before .before .before .before .before .before .before .before .before .before .before .before .before .before .before .before .before .before .before .before .before .before .before .before .before .before .before .before .before .before .before .loop .inv .10 (c .before .before .before .before .before .before .before .before .before .before .before .before .before .before .before .before .before .before .before .before .before .before .before .before .before .before .before .before .before .before .before .before .before .before .before .before .before .before .before .before .before .before .before .before .before .before .before .before .before .before .before .before .before .before .before .before .before .before .before .before .pre .p) (c .before .before .before .before .before .before .before .before .before .before .before .before .before .before .before .before .before .before .before .before .before .before .before .before .before .before .before .before .before .before .before .before .before .before .before .before .before .before .before .before .before .before .before .before .before .before .before .before .before .before .before .before .before .before .before .before .before .before .before .before .pre .setting) .size ∙ sym (ap length (c .before .before .before .before .before .before .before .before .before .before .before .before .before .before .before .before .before .before .before .before .before .before .before .before .before .before .before .before .before .before .before .before .before .before .before .before .before .before .before .before .before .before .before .before .before .before .before .before .before .before .before .before .before .before .before .before .before .before .before .before .pre .none-answered) ∙ length-replicate {A = ℕ} answerWords 0)
+same-length-18 c = c .before .before .before .before .before .before .before .before .before .before .before .before .before .before .before .before .round .kept .1 .1 .1 .1 .1 .1 .1 .1 .1 .0 ∙ c .before .before .before .before .before .before .before .before .before .before .before .before .before .before .before .before .before .before .before .before .before .before .before .before .before .before .before .before .before .before .before .before .before .before .loop .inv .10 (c .before .before .before .before .before .before .before .before .before .before .before .before .before .before .before .before .before .before .before .before .before .before .before .before .before .before .before .before .before .before .before .before .before .before .before .before .before .before .before .before .before .before .before .before .before .before .before .before .before .before .before .before .before .before .before .before .before .before .before .before .pre .p) (c .before .before .before .before .before .before .before .before .before .before .before .before .before .before .before .before .before .before .before .before .before .before .before .before .before .before .before .before .before .before .before .before .before .before .before .before .before .before .before .before .before .before .before .before .before .before .before .before .before .before .before .before .before .before .before .before .before .before .before .before .pre .setting) .sets .all-words ∙ sym (ap length (c .before .before .before .before .before .before .before .before .before .before .before .before .before .before .before .before .before .before .before .before .before .before .before .before .before .before .before .before .before .before .before .before .before .before .before .before .before .before .before .before .before .before .before .before .before .before .before .before .before .before .before .before .before .before .before .before .before .before .before .before .pre .none-answered) ∙ length-replicate {A = ℕ} (keptWords answerSet) 0)
 
 returns-3 : tie.Need-returns-3 Inv-loop μ-loop
 returns-3 c =

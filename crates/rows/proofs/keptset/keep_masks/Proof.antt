@@ -1,23 +1,23 @@
--- `keep` meets its contract: the words passed have what is found besides. The measure is how many are left. Assumes nothing.
+-- `keep_masks` meets its contract: the words passed have what is found besides. The measure is how many are left. Assumes nothing.
 use Prim.Native.Nat.{_-_, _≤_}
 use native.Mathlib.Omega.{arith}
 use borrow.Author.Needs.{needs}
-use Rattle.ends.specs.Keeping.{keptSet}
-use Rattle.ends.proofs.KeptWords.{Beside, beside-none, beside-one, beside-all}
-use Rattle.ends.proofs.keep.keep.Statement.{statement}
-use Rattle.ends.proofs.keep.keep.Tie as tie
+use mathlib.Core.Path.{_≡_}
+use Rattle.rows.proofs.KeptWords.{Beside, beside-none, beside-one, beside-all}
+use Rattle.rows.proofs.keptset.keep_masks.Statement.{statement}
+use Rattle.rows.proofs.keptset.keep_masks.Tie as tie
 
 abbrev Inv-loop : tie.InvT-loop
-Inv-loop found k kept₀ i₀ kept i = (i ≤ keptSet) × Beside found k i kept₀ kept
+Inv-loop found size k kept₀ first i₀ kept i = (i ≤ size) × Beside found first i kept₀ kept
 
 abbrev μ-loop : tie.MeasureT-loop
-μ-loop found k kept₀ i₀ kept i = keptSet - i
+μ-loop found size k kept₀ first i₀ kept i = size - i
+
+mul-first : tie.Need-mul-first Inv-loop μ-loop
+mul-first c = search needs
 
 loop-holds : tie.Need-loop-holds Inv-loop μ-loop
 loop-holds c = (omega arith, beside-none _ _ _)
-
-mul-at : tie.Need-mul-at Inv-loop μ-loop
-mul-at c = search needs
 
 add-at : tie.Need-add-at Inv-loop μ-loop
 add-at c = search needs
@@ -47,22 +47,24 @@ loop-less : tie.Need-loop-less Inv-loop μ-loop
 loop-less c = search needs
 
 loop-again : tie.Need-loop-again Inv-loop μ-loop
-loop-again c = (omega arith, beside-one _ _ (c .before .before .before .loop .i) _ _ (omega (arith, c .before .before .before .before .pre .1, c .before .before .before .before .pre .2)) (c .before .before .before .loop .inv .1))
+loop-again c = (omega arith, beside-one _ _ (c .before .before .before .loop .i) _ _ (omega arith) (c .before .before .before .loop .inv .1))
 
 same-length : tie.Need-same-length Inv-loop μ-loop
-same-length c = c .before .loop .inv .1 .size
+same-length c = c .before .loop .inv .1 .as-long
 
 returns : tie.Need-returns Inv-loop μ-loop
-returns c = beside-all _ _ (c .before .loop .i) _ _ (omega arith) (c .before .loop .inv .1)
+returns c =
+    let e : c .before .loop .i ≡ c .before .before .args .size = omega arith in
+    rw e at (beside-all _ _ (c .before .loop .i) _ _ (c .before .loop .inv .1))
 
-pub keep-spec : {M : Type 1} → statement M
-keep-spec =
+pub keep-masks-spec : {M : Type 1} → statement M
+keep-masks-spec =
     tie.close
     (tie.spec
     Inv-loop
     μ-loop
+    mul-first
     loop-holds
-    mul-at
     add-at
     mul-kept
     slice-read-kept
