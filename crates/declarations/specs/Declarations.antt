@@ -38,11 +38,11 @@ two at (name ∷ []) f = wrong illFormed at
 two at (name ∷ arity ∷ []) f = f name arity
 two at (name ∷ arity ∷ more ∷ ss) f = wrong illFormed at
 
--- A line of a section may stand where none of a later section does ("its kind stands after a later kind"), there is a `pred` before it,
--- and there are not yet 64 of its kind.
+-- "a 65th declaration or clause", "no `pred`": a line of a section may come while it is neither
 abbrev pub mayCome : TextSoFar → ℕ → Bool
 mayCome t section = (eqb section predSection || ltb 0 (count t predSection)) && ltb (count t section) maxDeclared
 
+-- and it stands in order: "its kind stands after a later kind" is 11, and comes before 2
 abbrev pub opens : {A : Type 0} → TextSoFar → ℕ → ℕ → Read A → Read A
 opens t section at line =
     cond (eqb (later (t .lines) section) 0) (cond (mayCome t section) line (wrong outOfRange at)) (wrong illFormed at)

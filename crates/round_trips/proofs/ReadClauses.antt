@@ -26,7 +26,7 @@ use Rattle.round_trips.proofs.ReadTokens.{Declares}
 use Rattle.round_trips.proofs.ReadModes.{Modal, no-modes}
 use Rattle.round_trips.proofs.ReadAtoms.{allTokens, Taken, cells-taken}
 use Rattle.round_trips.proofs.Sections.{Section, SoFar, grown, line-added, section-grown}
-use Rattle.round_trips.proofs.ReadSoFar.{Begun, begunWith, clauseItems, predicatesOf, functionsOf, clausesOf, sectionsOf, ReadSoFar, predicates-counted, functions-counted, opens-right}
+use Rattle.round_trips.proofs.ReadSoFar.{Begun, clauseItems, predicatesOf, functionsOf, clausesOf, sectionsOf, ReadSoFar, predicates-counted, functions-counted, opens-right}
 
 -- the atoms of a whole line
 pub record LineAtoms (t : Symbols) (ps fs : List ℕ) (query : Bool) (ss : List (List ℕ)) (r : Row) : Type 0 where
@@ -137,7 +137,7 @@ module _ (t : TextSoFar) (text : List ℕ) (read : ReadSoFar t text) (few : coun
       let size : length (cs ++ c .is ∷ []) ≡ length cs + 1 = length-append cs (c .is ∷ []) in
       let counted : count t clauseSection ≡ length cs = ap (λ (l : List ℕ). getD l clauseSection 0) (read .so .lines) in
       record {
-        program = begunWith ps fs (cs ++ c .is ∷ []);
+        program = record { predicates = ps; functions = fs; clauses = cs ++ c .is ∷ [] };
         so =
             subst (λ (s : Section). SoFar (withClause t r) (text ++ line clause ss) (front ++ s ∷ [])) clauses-grown
             (line-added t text front (clausesOf (t .names) (length ps) cs) 0 (t .names) ((r .atoms - 1) ∷ r .out) (line clause ss) (read .so));

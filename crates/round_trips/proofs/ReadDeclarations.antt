@@ -9,7 +9,6 @@ use lib.Dec.{ltb}
 use borrow.Author.Tests.{ltb-false}
 use Rattle.program.specs.Limits.{maxDeclared, maxArity}
 use Rattle.program.specs.Reply.{outOfRange, badName}
-use Rattle.program.specs.Program.{Clause}
 use Rattle.program.specs.Within.{none, more}
 use Rattle.text.specs.Token.{isName, numberOf}
 use Rattle.text.specs.Name.{nameBytes, padded}
@@ -17,7 +16,7 @@ use Rattle.text.specs.Decimal.{decimal}
 use Rattle.text.specs.declared.token.Number.{Number}
 use Rattle.text.specs.declared.token.Number.the-variants.{None, Value}
 use Rattle.text_lines.specs.Keyword.{pred, func}
-use Rattle.cells.specs.TextSoFar.{Read, right, predSection, funcSection, TextSoFar, count, later, withLine}
+use Rattle.cells.specs.TextSoFar.{Read, right, predSection, funcSection, TextSoFar, count, withLine}
 use Rattle.declarations.specs.Declarations.{declaring, fresh, arityOf, symbolOf, two, opens, declared, declarationLine, predLine, funcLine}
 use Rattle.declarations.specs.declared.declare.Declared.the-variants.{Fault, Symbol}
 use Rattle.declarations.proofs.Symbols.{entry-front}
@@ -27,7 +26,7 @@ use Rattle.round_trips.proofs.Tokens.{both-true, number-decimal}
 use Rattle.round_trips.proofs.Printed.{each-append}
 use Rattle.round_trips.proofs.ReadNames.{Sound-names, predicate-sound, function-sound, last-token}
 use Rattle.round_trips.proofs.Sections.{Section, SoFar, grown, empties, line-added, sectionOf, section-grown}
-use Rattle.round_trips.proofs.ReadSoFar.{begunWith, declarationItems, predicatesOf, functionsOf, sectionsOf, WithinSoFar, ReadSoFar, predicates-counted, functions-counted, Opened, opens-right}
+use Rattle.round_trips.proofs.ReadSoFar.{Begun, declaredOnly, othersBehind, declarationItems, predicatesOf, functionsOf, sectionsOf, WithinSoFar, ReadSoFar, within-declared, predicates-counted, functions-counted, only-predicates, only-declared, Opened, opens-right}
 
 -- names behind those that are written change nothing
 declarations-front : (keyword names key : List ℕ) (i : ℕ) (arities : List ℕ) → (i + length arities) * nameBytes ≤ length names
@@ -106,78 +105,68 @@ size-more : (arities : List ℕ) (a : ℕ) → length (arities ++ a ∷ []) ≡ 
 size-more arities a = length-append arities (a ∷ [])
 
 -- a predicate more, while there is nothing else
-module _ (t : TextSoFar) (text ps name : List ℕ) (a : ℕ) (so : SoFar t text (sectionsOf (t .names) (begunWith ps [] []))) (within : WithinSoFar (begunWith ps [] []))
+module _ (t : TextSoFar) (text ps name : List ℕ) (a : ℕ) (so : SoFar t text (sectionsOf (t .names) (declaredOnly ps []))) (within : WithinSoFar (declaredOnly ps []))
     (sound : Sound-names (t .names) (length ps) 0) (room : count t predSection < maxDeclared)
     (new : fresh (t .names) 0 (count t predSection) name ≡ true) (small : a ≤ maxArity) where
   predicate-declared : ReadSoFar (withLine t predSection (t .names ++ padded name) (a ∷ [])) (text ++ line pred (name ∷ decimal a ∷ []))
   predicate-declared =
-      let counted = predicates-counted (t .names) (begunWith ps [] []) so in
+      let counted = predicates-counted (t .names) (declaredOnly ps []) so in
       let size : length (t .names) ≡ (0 + length ps) * nameBytes = omega (arith, sound .sized) in
       record {
-        program = begunWith (ps ++ a ∷ []) [] [];
+        program = declaredOnly (ps ++ a ∷ []) [];
         so =
-            subst (λ (s : Section). SoFar (withLine t predSection (t .names ++ padded name) (a ∷ [])) (text ++ line pred (name ∷ decimal a ∷ [])) (s ∷ empties 2))
+            subst (λ (s : Section). SoFar (withLine t predSection (t .names ++ padded name) (a ∷ [])) (text ++ line pred (name ∷ decimal a ∷ [])) (s ∷ empties (suc othersBehind)))
             (section-declared pred (t .names) name 0 ps a size (both-true (isName name) _ new .0))
-            (line-added t text [] (predicatesOf (t .names) ps) 2 (t .names ++ padded name) (a ∷ []) (line pred (name ∷ decimal a ∷ [])) so);
+            (line-added t text [] (predicatesOf (t .names) ps) (suc othersBehind) (t .names ++ padded name) (a ∷ []) (line pred (name ∷ decimal a ∷ [])) so);
         within =
-            record {
-              predicates-most = omega (arith, size-more ps a);
-              functions-most = omega arith;
-              clauses-most = omega arith;
-              predicate-arities = each-append ps (a ∷ []) (within .predicate-arities) (more small none);
-              function-arities = none;
-              clauses-within = none;
-            };
+            within-declared (ps ++ a ∷ []) [] (omega (arith, size-more ps a)) (omega arith)
+            (each-append ps (a ∷ []) (within .predicate-arities) (more small none)) none;
         sound = rw (size-more ps a) (predicate-sound (t .names) name (length ps) sound (rw counted at new));
       }
 
 -- a function more, while there is nothing behind the functions
-module _ (t : TextSoFar) (text ps fs name : List ℕ) (a : ℕ) (so : SoFar t text (sectionsOf (t .names) (begunWith ps fs []))) (within : WithinSoFar (begunWith ps fs []))
+module _ (t : TextSoFar) (text ps fs name : List ℕ) (a : ℕ) (so : SoFar t text (sectionsOf (t .names) (declaredOnly ps fs))) (within : WithinSoFar (declaredOnly ps fs))
     (sound : Sound-names (t .names) (length ps) (length fs)) (room : count t funcSection < maxDeclared)
     (new : fresh (t .names) (count t predSection) (count t funcSection) name ≡ true) (small : a ≤ maxArity) where
   function-declared : ReadSoFar (withLine t funcSection (t .names ++ padded name) (a ∷ [])) (text ++ line func (name ∷ decimal a ∷ []))
   function-declared =
-      let counted = functions-counted (t .names) (begunWith ps fs []) so in
+      let counted = functions-counted (t .names) (declaredOnly ps fs) so in
       record {
-        program = begunWith ps (fs ++ a ∷ []) [];
+        program = declaredOnly ps (fs ++ a ∷ []);
         so =
-            subst (λ (ss : Section × Section). SoFar (withLine t funcSection (t .names ++ padded name) (a ∷ [])) (text ++ line func (name ∷ decimal a ∷ [])) (ss .0 ∷ ss .1 ∷ empties 1))
+            subst (λ (ss : Section × Section). SoFar (withLine t funcSection (t .names ++ padded name) (a ∷ [])) (text ++ line func (name ∷ decimal a ∷ [])) (ss .0 ∷ ss .1 ∷ empties othersBehind))
             (ap₂ (λ (s s′ : Section). (s, s′)) (section-front pred (t .names) (padded name) 0 ps (omega (arith, sound .sized)))
             (section-declared func (t .names) name (length ps) fs a (sound .sized) (both-true (isName name) _ new .0)))
-            (line-added t text (predicatesOf (t .names) ps ∷ []) (functionsOf (t .names) (length ps) fs) 1 (t .names ++ padded name) (a ∷ []) (line func (name ∷ decimal a ∷ [])) so);
+            (line-added t text (predicatesOf (t .names) ps ∷ []) (functionsOf (t .names) (length ps) fs) othersBehind (t .names ++ padded name) (a ∷ []) (line func (name ∷ decimal a ∷ [])) so);
         within =
-            record {
-              predicates-most = within .predicates-most;
-              functions-most = omega (arith, size-more fs a);
-              clauses-most = omega arith;
-              predicate-arities = within .predicate-arities;
-              function-arities = each-append fs (a ∷ []) (within .function-arities) (more small none);
-              clauses-within = none;
-            };
-        sound = rw (size-more fs a) (function-sound (t .names) name (length ps) (length fs) sound (rw (predicates-counted (t .names) (begunWith ps fs []) so, counted) at new));
+            within-declared ps (fs ++ a ∷ []) (within .predicates-most) (omega (arith, size-more fs a)) (within .predicate-arities)
+            (each-append fs (a ∷ []) (within .function-arities) (more small none));
+        sound = rw (size-more fs a) (function-sound (t .names) name (length ps) (length fs) sound (rw (predicates-counted (t .names) (declaredOnly ps fs) so, counted) at new));
       }
 
 -- (declarations) a `pred` line
 pub pred-read : (t t′ : TextSoFar) (text : List ℕ) (at : ℕ) (ss : List (List ℕ)) → ReadSoFar t text → predLine t at ss ≡ right t′ → ReadSoFar t′ (text ++ line pred ss)
-pred-read t t′ text at ss read e =
-    let d = declaration-read t t′ predSection 0 at ss e in
-    by (read .program .predicates) (read .program .functions) (read .program .clauses) (read .so) (read .within) (read .sound) d
+pred-read t t′ text at ss read e = by (declaration-read t t′ predSection 0 at ss e)
   where
-    by : (ps fs : List ℕ) (cs : List Clause) → SoFar t text (sectionsOf (t .names) (begunWith ps fs cs)) → WithinSoFar (begunWith ps fs cs)
-        → Sound-names (t .names) (length ps) (length fs) → Declaration t t′ predSection 0 ss → ReadSoFar t′ (text ++ line pred ss)
-    by ps [] [] so within sound d =
-        rw (d .fields, ← d .becomes) (predicate-declared t text ps (d .name) (d .arity) so within sound (d .opened .few) (d .new) (d .small))
-    by ps [] (c ∷ cs) so within sound d = absurd (let z = d .opened .none-later in let y = ap (λ (l : List ℕ). later l predSection) (so .lines) in omega arith)
-    by ps (f ∷ fs) cs so within sound d = absurd (let z = d .opened .none-later in let y = ap (λ (l : List ℕ). later l predSection) (so .lines) in omega arith)
+    by : Declaration t t′ predSection 0 ss → ReadSoFar t′ (text ++ line pred ss)
+    by d =
+        let b = read .program in
+        let only = only-predicates (t .names) b (read .so) (d .opened .none-later) in
+        rw (d .fields, ← d .becomes)
+        (predicate-declared t text (b .predicates) (d .name) (d .arity)
+        (subst (λ (x : Begun). SoFar t text (sectionsOf (t .names) x)) only (read .so)) (subst WithinSoFar only (read .within))
+        (subst (λ (x : Begun). Sound-names (t .names) (length (x .predicates)) (length (x .functions))) only (read .sound))
+        (d .opened .few) (d .new) (d .small))
 
 -- a `func` line
 pub func-read : (t t′ : TextSoFar) (text : List ℕ) (at : ℕ) (ss : List (List ℕ)) → ReadSoFar t text → funcLine t at ss ≡ right t′ → ReadSoFar t′ (text ++ line func ss)
-func-read t t′ text at ss read e =
-    let d = declaration-read t t′ funcSection (count t predSection) at ss e in
-    by (read .program .predicates) (read .program .functions) (read .program .clauses) (read .so) (read .within) (read .sound) d
+func-read t t′ text at ss read e = by (declaration-read t t′ funcSection (count t predSection) at ss e)
   where
-    by : (ps fs : List ℕ) (cs : List Clause) → SoFar t text (sectionsOf (t .names) (begunWith ps fs cs)) → WithinSoFar (begunWith ps fs cs)
-        → Sound-names (t .names) (length ps) (length fs) → Declaration t t′ funcSection (count t predSection) ss → ReadSoFar t′ (text ++ line func ss)
-    by ps fs [] so within sound d =
-        rw (d .fields, ← d .becomes) (function-declared t text ps fs (d .name) (d .arity) so within sound (d .opened .few) (d .new) (d .small))
-    by ps fs (c ∷ cs) so within sound d = absurd (let z = d .opened .none-later in let y = ap (λ (l : List ℕ). later l funcSection) (so .lines) in omega arith)
+    by : Declaration t t′ funcSection (count t predSection) ss → ReadSoFar t′ (text ++ line func ss)
+    by d =
+        let b = read .program in
+        let only = only-declared (t .names) b (read .so) (d .opened .none-later) in
+        rw (d .fields, ← d .becomes)
+        (function-declared t text (b .predicates) (b .functions) (d .name) (d .arity)
+        (subst (λ (x : Begun). SoFar t text (sectionsOf (t .names) x)) only (read .so)) (subst WithinSoFar only (read .within)) (read .sound)
+        (d .opened .few) (d .new) (d .small))

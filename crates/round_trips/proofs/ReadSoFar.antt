@@ -1,7 +1,7 @@
 -- What is known of the text so far: a program without its goal, within the limits and with sound names, whose sections are what was read.
-use Prim.Native.Nat.{ℕ, _≤_, _<_}
+use Prim.Native.Nat.{ℕ, _+_, _≤_, _<_}
 use native.Mathlib.Omega.{arith}
-use mathlib.Core.Path.{_≡_, refl, sym, ap}
+use mathlib.Core.Path.{_≡_, refl, sym, ap, _∙_}
 use mathlib.Core.Bool.{_||_}
 use mathlib.Core.List.{List, [], _∷_, append-assoc}
 use lib.ListN.{length, getD}
@@ -27,8 +27,12 @@ pub record Begun : Type 0 where
   pub functions : List ℕ
   pub clauses : List Clause
 
-abbrev pub begunWith : List ℕ → List ℕ → List Clause → Begun
-begunWith ps fs cs = record { predicates = ps; functions = fs; clauses = cs }
+-- the declarations alone, and how many sections stand behind them
+abbrev pub declaredOnly : List ℕ → List ℕ → Begun
+declaredOnly ps fs = record { predicates = ps; functions = fs; clauses = [] }
+
+abbrev pub othersBehind : ℕ
+othersBehind = 1
 
 abbrev pub declarationItems : List ℕ → List ℕ → Items ℕ
 declarationItems keyword names =
@@ -76,20 +80,24 @@ pub record ReadSoFar (t : TextSoFar) (text : List ℕ) : Type 0 where
   pub within : WithinSoFar program
   pub sound : Sound-names (t .names) (length (program .predicates)) (length (program .functions))
 
+pub within-declared : (ps fs : List ℕ) → length ps ≤ maxDeclared → length fs ≤ maxDeclared
+    → Each (λ arity. arity ≤ maxArity) ps → Each (λ arity. arity ≤ maxArity) fs → WithinSoFar (declaredOnly ps fs)
+within-declared ps fs most functions-most small functions-small =
+    record {
+      predicates-most = most;
+      functions-most = functions-most;
+      clauses-most = omega arith;
+      predicate-arities = small;
+      function-arities = functions-small;
+      clauses-within = none;
+    }
+
 pub nothing-so-far : ReadSoFar nothing []
 nothing-so-far =
     record {
-      program = begunWith [] [] [];
+      program = declaredOnly [] [];
       so = record { lines = refl; words = refl; written = refl };
-      within =
-          record {
-            predicates-most = omega arith;
-            functions-most = omega arith;
-            clauses-most = omega arith;
-            predicate-arities = none;
-            function-arities = none;
-            clauses-within = none;
-          };
+      within = within-declared [] [] (omega arith) (omega arith) none none;
       sound = no-names;
     }
 
@@ -99,6 +107,22 @@ module _ (names : List ℕ) (b : Begun) {t : TextSoFar} {text : List ℕ} (so : 
 
   pub functions-counted : count t funcSection ≡ length (b .functions)
   functions-counted = ap (λ (l : List ℕ). getD l funcSection 0) (so .lines)
+
+  -- where no line stands behind the predicates, or behind the functions, there are no others
+  pub only-predicates : later (t .lines) predSection ≡ 0 → b ≡ declaredOnly (b .predicates) []
+  only-predicates e = by (b .functions) (b .clauses) (sym (ap (λ (l : List ℕ). later l predSection) (so .lines)) ∙ e)
+    where
+      by : (fs : List ℕ) (cs : List Clause) → length fs + length cs ≡ 0 → record { predicates = b .predicates; functions = fs; clauses = cs } ≡ declaredOnly (b .predicates) []
+      by [] [] q = refl
+      by [] (c ∷ cs) q = absurd (omega arith)
+      by (f ∷ fs) cs q = absurd (omega arith)
+
+  pub only-declared : later (t .lines) funcSection ≡ 0 → b ≡ declaredOnly (b .predicates) (b .functions)
+  only-declared e = by (b .clauses) (sym (ap (λ (l : List ℕ). later l funcSection) (so .lines)) ∙ e)
+    where
+      by : (cs : List Clause) → length cs ≡ 0 → record { predicates = b .predicates; functions = b .functions; clauses = cs } ≡ declaredOnly (b .predicates) (b .functions)
+      by [] q = refl
+      by (c ∷ cs) q = absurd (omega arith)
 
 -- a line that may stand: none of a later section stands before it, and there are not yet 64 of its own
 pub record Opened (t : TextSoFar) (section : ℕ) : Type 0 where

@@ -25,7 +25,7 @@ use Rattle.round_trips.proofs.PrintedNumbers.{number-printed}
 use Rattle.round_trips.proofs.ReadNames.{Sound-names}
 use Rattle.round_trips.proofs.WrittenNames.{sound-name, Sound-name, firstNames, names-more, name-new, first-predicate, first-function}
 use Rattle.round_trips.proofs.Sections.{inSection, next-section}
-use Rattle.round_trips.proofs.ReadSoFar.{declarationItems, predicatesOf, functionsOf}
+use Rattle.round_trips.proofs.ReadSoFar.{othersBehind, declarationItems, predicatesOf, functionsOf}
 use Rattle.round_trips.proofs.WrittenLines.{ReadsOn, reads-section}
 
 pub arity-printed : (arity : ℕ) → arity ≤ maxArity → Printed (decimal arity)
@@ -46,10 +46,10 @@ symbol-new names predicates from m i arity at is e l sound h =
 module _ (names ps fs : List ℕ) (sound : Sound-names names (length ps) (length fs)) where
   -- the text so far, within the predicates and within the functions, by the number of the next symbol
   abbrev inPredicates : ℕ → List ℕ → TextSoFar
-  inPredicates i ws = inSection (firstNames names i) [] 2 i ws
+  inPredicates i ws = inSection (firstNames names i) [] (suc othersBehind) i ws
 
   abbrev inFunctions : ℕ → List ℕ → TextSoFar
-  inFunctions i ws = inSection (firstNames names i) (predicatesOf names ps ∷ []) 1 (i - length ps) ws
+  inFunctions i ws = inSection (firstNames names i) (predicatesOf names ps ∷ []) othersBehind (i - length ps) ws
 
   pred-read : (i arity : ℕ) (ws : List ℕ) (at : ℕ) → i < length ps → length ps ≤ maxDeclared → arity ≤ maxArity
       → fieldsOf (inPredicates i ws) at (pred ∷ declarationFields names i arity) ≡ right (goesOn (inPredicates (suc i) (ws ++ arity ∷ [])))
@@ -87,7 +87,7 @@ module _ (names ps fs : List ℕ) (sound : Sound-names names (length ps) (length
   -- all declarations, and what is read behind them
   pub reads-declared : (rest : List ℕ) (s : Scenario) → minPredicates ≤ length ps → length ps ≤ maxDeclared → length fs ≤ maxDeclared
       → Each (λ arity. arity ≤ maxArity) ps → Each (λ arity. arity ≤ maxArity) fs
-      → ReadsOn (inSection names (predicatesOf names ps ∷ functionsOf names (length ps) fs ∷ []) 0 0 []) rest s
+      → ReadsOn (inSection names (predicatesOf names ps ∷ functionsOf names (length ps) fs ∷ []) (othersBehind - 1) 0 []) rest s
       → ReadsOn nothing (declarations pred names 0 ps ++ (declarations func names (length ps) fs ++ rest)) s
   reads-declared rest s some most functions-most small functions-small r =
       reads-section (declarationItems pred names) (name-printed pred refl .bytes) (λ arity. arity ≤ maxArity) inPredicates 0 (length ps)
@@ -104,10 +104,10 @@ module _ (names ps fs : List ℕ) (sound : Sound-names names (length ps) (length
       start : inPredicates (length ps) ps ≡ inFunctions (length ps) []
       start =
           let none-yet : length ps - length ps ≡ 0 = omega arith in
-          rw none-yet (next-section (firstNames names (length ps)) [] 1 (predicatesOf names ps))
+          rw none-yet (next-section (firstNames names (length ps)) [] othersBehind (predicatesOf names ps))
 
-      end : inFunctions (length ps + length fs) fs ≡ inSection names (predicatesOf names ps ∷ functionsOf names (length ps) fs ∷ []) 0 0 []
+      end : inFunctions (length ps + length fs) fs ≡ inSection names (predicatesOf names ps ∷ functionsOf names (length ps) fs ∷ []) (othersBehind - 1) 0 []
       end =
           let all : length ps + length fs - length ps ≡ length fs = omega arith in
           let whole : firstNames names (length ps + length fs) ≡ names = take-all ((length ps + length fs) * nameBytes) names (omega (arith, sound .sized)) in
-          rw (all, whole) (next-section names (predicatesOf names ps ∷ []) 0 (functionsOf names (length ps) fs))
+          rw (all, whole) (next-section names (predicatesOf names ps ∷ []) (othersBehind - 1) (functionsOf names (length ps) fs))
