@@ -38,7 +38,11 @@ fn link_archive(usual: PathBuf, sources_changed: SystemTime) {
     println!("cargo::rerun-if-env-changed=THREADKNOLL_LIBRARY");
     let folder = std::env::var("THREADKNOLL_LIBRARY").map(PathBuf::from).unwrap_or(usual);
     let file = folder.join("libthreadknoll.a");
-    println!("cargo::rerun-if-changed={}", file.display());
+    // cargo builds again and again for a file that is missing, so that its folder is watched then
+    let watched = [&file, &folder].into_iter().find(|path| path.exists());
+    if let Some(path) = watched {
+        println!("cargo::rerun-if-changed={}", path.display());
+    }
     let Ok(made) = std::fs::metadata(&file).and_then(|file| file.modified()) else {
         return;
     };

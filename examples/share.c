@@ -46,7 +46,7 @@ static void add_shape(size_t from, size_t to) {
     int variables = 0;
     s->cells = (int)(to - from);
     for (int i = 0; i < s->cells; i++) {
-        uint16_t cell = words[from + i];
+        uint16_t cell = words[from + (size_t)i];
         if (i > 0 && cell >= THREADKNOLL_FIRST_VARIABLE) {
             int v = 0;
             while (v < variables && met[v] != cell)
@@ -65,7 +65,7 @@ static void add_shape(size_t from, size_t to) {
 
 /* "Shape 0 is the goal's; the body atoms follow in program order." The goal stands last, so it is found first. */
 static void number_shapes(void) {
-    size_t first = 3 + words[0] + words[1], at = first;
+    size_t first = (size_t)3 + words[0] + words[1], at = first;
     for (int c = 0; c < words[2]; c++)
         for (int atoms = words[at++] + 1; atoms > 0; atoms--)
             at = atom_end(at);

@@ -113,7 +113,7 @@ uint16_t threadknoll_analyse(const uint16_t *words, size_t words_length,
 /*
  * The mode table of an encoded program with its names, as threadknoll_analyse leaves it, and its listing, as `modes` prints it; the count is
  * in bytes of the listing. Names are checked as by threadknoll_write. Room for rows comes before room for bytes; where either is too small,
- * both buffers are zeros. A room of THREADKNOLL_MAX_LISTING bytes is always enough.
+ * both buffers are zeros. A room of THREADKNOLL_MAX_LISTING bytes is always enough. The table's rows end at the first whose kind is 0, or with the room.
  */
 uint16_t threadknoll_list(const uint16_t *words, size_t words_length,
                           const uint8_t *names, size_t names_length,

@@ -1,4 +1,4 @@
--- Wrong analyses, as functions of the words and the lent table: those that the promise is to shut out. All but the first three go wrong over any other analysis.
+-- Wrong analysers, functions of the words and the lent table: those that the promise is to shut out. All but the first three go wrong over any other analyser.
 use Prim.Native.Nat.{ℕ, zero, suc, min}
 use mathlib.Core.List.{List, _∷_}
 use lib.ListN.{length, replicate, getD, drop}

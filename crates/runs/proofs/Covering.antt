@@ -40,7 +40,7 @@ pub run-wide : (D : Domain) (p : Program) (goal : D .Mark) {n : ℕ} {items : Li
 run-wide D p goal (start σ holds) = start-any σ holds
 run-wide D p goal (step r s) = step-any (run-wide D p goal r) (step-wide p s)
 
-module _ (D : Domain) (sound : Sound D) (p : Program) (goal : D .Mark) (T : Row (D .Mark) → Type 0) (closed : Closed D p goal T) where
+module _ (D : Domain) (sound : Sound D) (p : Program) (goal : D .Mark) (T : Row (D .Mark) → Type 0) (closed : Closed D p T) where
   -- a goal in progress whose leftmost item is covered, with the frames behind it
   pub data Progress : List Item → Type 0 where
     done : Progress []

@@ -29,12 +29,12 @@ module _ (p : Program) (f : ℕ) (none : WithoutClauses p f) (s : ℕ) (ts : Ter
   Others (cont a b M) = Unit {0}
   Others (solution r M) = r ≡ s → ⊥
 
-  pub others-closed : (goal : ℕ) → Closed modes p goal Others
-  others-closed goal _ (calls reached hc hA numbered) = tt
-  others-closed goal _ (conts reached hc hA kept) = tt
-  others-closed goal _ (solves {k = k} {c = c} hc reached hs row passed) = λ e.
+  pub others-closed : Closed modes p Others
+  others-closed _ (calls reached hc hA numbered) = tt
+  others-closed _ (conts reached hc hA kept) = tt
+  others-closed _ (solves {k = k} {c = c} hc reached hs row passed) = λ e.
       head-differs p f none k c hc (passed .α) (subs ts (passed .β))
       (passed .unifier .unifies ∙ ap (λ t. sub t (passed .β)) (nth-same (rw e at hs) h))
 
   pub no-clauses-no-solution : (goal M : ℕ) → Least modes p goal (solution s M) → ⊥
-  no-clauses-no-solution goal M least = least Others (others-closed goal) tt refl
+  no-clauses-no-solution goal M least = least Others others-closed tt refl

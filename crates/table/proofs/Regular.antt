@@ -78,7 +78,7 @@ module _ (words : List ℕ) (p : Program) (accepted : faults words ≡ sound p) 
       let w = each-member (within .clauses-within) (nth-member hc) in
       ⊎-elim (atom-variables (w .head-atom) v) (λ (o′ : _). atoms-variables (c .body) (w .body-atoms) v (in-take i (c .body) v o′)) o
 
-  pub regular-closed : Closed modes p (p .ground) (Regular p)
+  pub regular-closed : Closed modes p (Regular p)
   regular-closed _ (calls {A = A} {N = N} {R = R} reached hc hA numbered) = regular-call (body-shape p hc hA) marked (small R (λ v o. shape-variables p within (body-shape p hc hA) v (marked v o)))
     where
       marked : (v : ℕ) → Has R v → Occ v (shapeOf A)

@@ -39,11 +39,11 @@ module _ {R : Type 0} (start : R) (Rules : (R → Type 0) → R → Type 0) wher
     stays k stop (suc j) row (inr g) = stop row (inr (rules-within finitary (InRound start Rules j) (InRound start Rules k) (stays k stop j) row g))
 
     -- the union of the rounds is closed
-    pub some-closed : ClosedUnder start Rules (InSome start Rules)
+    pub some-closed : ClosedUnder Rules (InSome start Rules)
     some-closed row g = let (k, r) = finitary .one-has-all (InRound start Rules) grows row g in (suc k, inr r)
 
     -- and each closed set that has the row of round 0 has all of it
-    pub rounds-within : (T : R → Type 0) → ClosedUnder start Rules T → T start → (k : ℕ) → Within (InRound start Rules k) T
+    pub rounds-within : (T : R → Type 0) → ClosedUnder Rules T → T start → (k : ℕ) → Within (InRound start Rules k) T
     rounds-within T closed has zero row e = rw e has
     rounds-within T closed has (suc k) row (inl r) = rounds-within T closed has k row r
     rounds-within T closed has (suc k) row (inr g) = closed row (rules-within finitary (InRound start Rules k) T (rounds-within T closed has k) row g)

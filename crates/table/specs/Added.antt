@@ -1,7 +1,7 @@
 -- What a step of the analysis adds to the keys that it keeps.
 use Prim.Native.Nat.{ℕ, _<_}
 use mathlib.Core.Path.{_≡_}
-use mathlib.Core.List.{List, [], _∷_, _++_, List·Memᴰ}
+use mathlib.Core.List.{List, _++_, List·Memᴰ}
 use lib.ListN.{length}
 use Rattle.program.specs.Lists.{Distinct}
 
@@ -29,8 +29,3 @@ pub record Full (ks : List ℕ) (S : ℕ → Type 0) (room : ℕ) (ks′ : List 
 -- the keys of the steps of a loop below n
 abbrev pub Below : (ℕ → ℕ → Type 0) → ℕ → ℕ → Type 0
 Below S n key = (i : ℕ) × (i < n) × S i key
-
--- numbers in strictly ascending order
-abbrev pub Rising : List ℕ → Type 0
-Rising [] = Unit {0}
-Rising (k ∷ ks) = ((j : ℕ) → List·Memᴰ j ks → k < j) × Rising ks

@@ -14,7 +14,7 @@ pub record Analysis : Type 1 where
   pub start : Row
   -- what the rules give from a set of rows
   pub Rules : (Row → Type 0) → Row → Type 0
-  -- the words of a row behind its round, and how many words a row has with it
+  -- the words of a row behind its round, and how many words a row has with it (`Computes` asks that all have as many)
   pub words : Row → List ℕ
   pub size : ℕ
 

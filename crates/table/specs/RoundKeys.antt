@@ -9,7 +9,7 @@ use Rattle.program.specs.Lists.{Distinct}
 use Rattle.table.specs.Rules.{Row}
 use Rattle.table.specs.Rounds.{At, First}
 use Rattle.table.specs.Table.{Entry}
-use Rattle.table.specs.Keys.{rowKey, rowOf}
+use Rattle.table.specs.Keys.{rowKey}
 use Rattle.table.specs.NewRows.{Earlier, NewGives}
 
 -- the keys of a set of rows
@@ -27,10 +27,6 @@ RoundKeys p k ks = AllKeys p (At modes p (p .ground) k) ks
 
 abbrev pub Looked : Program → ℕ → ℕ → Type 0
 Looked p k = Keyed p (NewGives modes p (Earlier modes p (p .ground) k) (At modes p (p .ground) k))
-
--- the entry of a key in a round
-abbrev pub entryOf : Program → ℕ → ℕ → Entry
-entryOf p k key = record { round = k; row = rowOf p key }
 
 -- the entries are those of the rows of the rounds up to k, each with its round
 abbrev pub Rounded : Program → ℕ → List Entry → Type 0
