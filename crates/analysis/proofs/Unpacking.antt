@@ -11,7 +11,7 @@ use Rattle.program.proofs.Nths.{below-nth}
 use Rattle.rows.specs.Rows.{slotAt, maskAt}
 use Rattle.table.specs.Rules.{Row, call, cont, solution}
 use Rattle.table.specs.Table.{Entry, rowWords, entryWords, tableWords, mask}
-use Rattle.table.specs.Keys.{Regular, regular-call, regular-cont, regular-solution, slotOf}
+use Rattle.table.specs.Keys.{Regular, regular-call, regular-cont, regular-solution, slotOf, firstCont, firstSolution}
 use Rattle.table.proofs.Promise.{table-words-length, table-words-append}
 use Rattle.steps.specs.Situation.{Setting, BodyOf}
 use Rattle.concerns.specs.Standing.{Stands}
@@ -20,18 +20,18 @@ use Rattle.analysis.specs.Unpacked.{withWords, withRow, Packed}
 
 -- a row of a slot: its kind by where the slot stands
 module _ {words dir : List ℕ} {p : Program} (s : Setting words dir p) (table : List ℕ) (r : ℕ) where
-  pub as-call : (row : Row ℕ) → Regular p row → (slot m : ℕ) → slot ≡ slotOf p row → m ≡ mask row → slot < 1025 → withWords table r 1 slot 0 m ≡ withRow table r row
+  pub as-call : (row : Row ℕ) → Regular p row → (slot m : ℕ) → slot ≡ slotOf p row → m ≡ mask row → slot < firstCont → withWords table r 1 slot 0 m ≡ withRow table r row
   as-call _ (regular-call hs w l) slot m e f h = rw (e, f) refl
   as-call _ (regular-cont hc hA w l) slot m e f h = absurd (omega arith)
   as-call _ (regular-solution hs w l) slot m e f h = absurd (omega arith)
 
-  pub as-solution : (row : Row ℕ) → Regular p row → (slot m : ℕ) → slot ≡ slotOf p row → m ≡ mask row → 2050 ≤ slot → withWords table r 3 (slot - 2050) 0 m ≡ withRow table r row
+  pub as-solution : (row : Row ℕ) → Regular p row → (slot m : ℕ) → slot ≡ slotOf p row → m ≡ mask row → firstSolution ≤ slot → withWords table r 3 (slot - firstSolution) 0 m ≡ withRow table r row
   as-solution _ (regular-call hs w l) slot m e f h = absurd (omega (arith, shapes-below s hs))
   as-solution _ (regular-cont hc hA w l) slot m e f h = absurd (omega (arith, bodies-below s hc hA))
-  as-solution _ (regular-solution {s = n} hs w l) slot m e f h = let d : slot - 2050 ≡ n = omega arith in rw (d, f) refl
+  as-solution _ (regular-solution {s = n} hs w l) slot m e f h = let d : slot - firstSolution ≡ n = omega arith in rw (d, f) refl
 
-  pub as-cont : (row : Row ℕ) → Regular p row → (slot m k i : ℕ) → slot ≡ slotOf p row → m ≡ mask row → 1025 ≤ slot → slot < 2050
-      → ((b : BodyOf p (slot - 1025)) → (k ≡ b .k) × (i ≡ b .i)) → withWords table r 2 (k + 1) (i + 1) m ≡ withRow table r row
+  pub as-cont : (row : Row ℕ) → Regular p row → (slot m k i : ℕ) → slot ≡ slotOf p row → m ≡ mask row → firstCont ≤ slot → slot < firstSolution
+      → ((b : BodyOf p (slot - firstCont)) → (k ≡ b .k) × (i ≡ b .i)) → withWords table r 2 (k + 1) (i + 1) m ≡ withRow table r row
   as-cont _ (regular-call hs w l) slot m k i e f h h′ found = absurd (omega (arith, shapes-below s hs))
   as-cont _ (regular-cont {k = k′} {i = i′} {c = c} {A = A} hc hA w l) slot m k i e f h h′ found =
       let (d, d′) = found (record { k = k′; i = i′; c = c; A = A; nth-clause = hc; nth-atom = hA; is = omega arith }) in

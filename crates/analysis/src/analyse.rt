@@ -1,15 +1,21 @@
 // The analysis of an encoded program: its table, or why there is none.
 use crate::unpack::unpack;
+use directory::layout::DIR_WORDS;
+use ends::keep::KEPT_WORDS;
+use joining::kept::ANSWER_WORDS;
 use order::sort::sort;
 use program::reply::ACCEPTED;
 use program::reply::NO_ROOM;
 use program::reply::Reply;
 use program::scan::scan;
 use rounds::rounds::rounds;
-use rows::row::MAX_ROWS;
-use rows::row::ROW_SIZE;
+use rows::maskset::SET_WORDS;
+use rows::row::BUCKETS;
+use program::limits::MAX_ROWS;
+use program::limits::ROW_SIZE;
 use rows::zeros::zero;
 use shaping::directory;
+use steps::place::SLOTS;
 use steps::unifiers::UNIFIER_BYTES;
 ghost use mathlib.Core.Path.{_≡_};
 ghost use lib.ListN.{length};
@@ -48,13 +54,13 @@ pub fn tabled(words: &[u16], dir: &mut [u16], table: &mut [u16]) -> Reply
     ensures { λ r. ⌜ Promise (now (words .entry)) (length (now (table .entry))) r (now (table .exit)) ⌝ }
     ensures in_dir { λ _. ⌜ ((p : Program) → faults (now (words .entry)) ≡ sound p → Directory (now (words .entry)) p (now (dir .exit))) ⌝ }
 {
-    let mut buckets = [0u16; 2048];
-    let mut heads = [0u16; 3075];
+    let mut buckets = [0u16; BUCKETS];
+    let mut heads = [0u16; SLOTS];
     let mut unifiers = [0u8; UNIFIER_BYTES];
-    let mut answers = [0u16; 4096];
-    let mut found = [0u16; 4096];
-    let mut kept = [0u16; 2112];
-    let mut answered = [0u16; 1088];
+    let mut answers = [0u16; MAX_ROWS];
+    let mut found = [0u16; SET_WORDS];
+    let mut kept = [0u16; KEPT_WORDS];
+    let mut answered = [0u16; ANSWER_WORDS];
     let room = room_in(table.len());
     directory(words, dir);
     let rows = rounds(
@@ -92,7 +98,7 @@ pub fn analyse(words: &[u16], table: &mut [u16]) -> Reply
 {
     let reply = scan(words);
     if reply.number == ACCEPTED {
-        let mut dir = [0u16; 9550];
+        let mut dir = [0u16; DIR_WORDS];
         return tabled(words, &mut dir, table);
     }
     zero(table);

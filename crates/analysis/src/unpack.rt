@@ -1,7 +1,7 @@
 // Rows as they stand at the end: round, kind, a, b, mask.
 use concerns::bodies::clause_of;
 use directory::layout::CLAUSE_FIRST;
-use rows::row::ROW_SIZE;
+use program::limits::ROW_SIZE;
 use rows::row::mask_at;
 use rows::row::slot_at;
 use steps::place::CONTS;

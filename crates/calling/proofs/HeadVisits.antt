@@ -16,6 +16,7 @@ use Rattle.marks.proofs.Modes.{kept-unique}
 use Rattle.marks.proofs.Passing.{pass-within}
 use Rattle.program.specs.Program.{Nth, Clause, Program}
 use Rattle.program.specs.Shapes.{shapes}
+use Rattle.program.specs.Limits.{maxShapes}
 use Rattle.program.proofs.ShapeLaws.{nth-same}
 use Rattle.rows.specs.MaskSet.{setWords}
 use Rattle.directory.specs.Layout.{clauseHead, clauseCells, clauseVars, shapeNext, predicateShape, dirWords}
@@ -109,7 +110,7 @@ module _ {words dir table heads : List ℕ} {since rows k : ℕ} (w : Situation 
                 };
           }
 
-      pub head-few : link ≤ 1025
+      pub head-few : link ≤ maxShapes
       head-few = link-few (w .setting) (b .nth-clause) (v .next) some
 
       pub head-nearer : (next : ℕ) → next ≡ getD dir (shapeNext + (link - 1)) 0 → shapesLeft next < shapesLeft link

@@ -8,6 +8,7 @@ ghost use mathlib.Core.Path.{_≡_};
 ghost use Prim.Native.Nat.{_≤_};
 ghost use lib.ListN.{length, replicate};
 ghost use Rattle.marks.specs.Modes.{modes};
+ghost use Rattle.program.specs.Limits.{maxRows};
 ghost use Rattle.rows.specs.Rows.{keysOf};
 ghost use Rattle.rows.specs.MaskSet.{setWords};
 ghost use Rattle.table.specs.NewRows.{NewIn};
@@ -36,7 +37,7 @@ fn middle_places<'a>(
     last: usize,
 ) -> usize
     requires { ⌜ MiddlesAsked (now words) (now dir) (now table) (now heads) (at .since) (at .rows) first last × Writable (now table) (now buckets) n (at .room) × (at .rows ≤ n)
-        × (now seen ≡ replicate setWords 0) × (length (now answers) ≡ 4096) × KeepsAnswers (now words) (now dir) (now table) (now answered) (at .rows) ⌝ }
+        × (now seen ≡ replicate setWords 0) × (length (now answers) ≡ maxRows) × KeepsAnswers (now words) (now dir) (now table) (now answered) (at .rows) ⌝ }
     ensures { λ r. ⌜ (now (seen .exit) ≡ replicate setWords 0)
         × ((w : MiddlesAsked (now (words .entry)) (now (dir .entry)) (now (table .entry)) (now (heads .entry)) (at .since) (at .rows) first last)
         → Stepped (w .situation .p) (keysOf (now (table .entry)) (at .rows)) (at .number) (at .room) n (now (table .entry)) (now (buckets .entry))

@@ -23,7 +23,7 @@ use Rattle.rows.specs.Rows.{slotAt, maskAt, keyAt, keysOf}
 use Rattle.rows.proofs.Keys.{key-slot, key-mask, key-listed}
 use Rattle.table.specs.Rules.{Row, call, cont, solution}
 use Rattle.table.specs.Table.{mask}
-use Rattle.table.specs.Keys.{slotOf, rowOf, Regular, regular-call, regular-cont, regular-solution, bodyIndex}
+use Rattle.table.specs.Keys.{slotOf, rowOf, Regular, regular-call, regular-cont, regular-solution, bodyIndex, firstCont, firstSolution}
 use Rattle.table.specs.Steps.{opens, makes, ends-in}
 use Rattle.table.specs.NewRows.{New, NewReached, new-on-head, NewIn}
 use Rattle.table.proofs.Keys.{mask-small}
@@ -147,7 +147,7 @@ module _ {words dir : List ℕ} {p : Program} (s : Setting words dir p) where
     abbrev shape-at : ℕ
     shape-at = shapeCells + getD dir (shapeStart + n) 0
 
-    pub shape-in-dir : (n < 1025) × (length dir ≡ dirWords) × (shape-at < length dir)
+    pub shape-in-dir : (n < firstCont) × (length dir ≡ dirWords) × (shape-at < length dir)
     shape-in-dir =
         let d = s .directory in
         let a = shape-is-atom p (setting-within s) hs in
@@ -168,13 +168,13 @@ module _ {words dir : List ℕ} {p : Program} (s : Setting words dir p) where
 
 -- the shape of a row by where its slot stands, and the clauses that the row concerns
 module _ {words dir table : List ℕ} {r : ℕ} (w : Stands words dir table r) (slot : ℕ) (is : slot ≡ slotAt table r) where
-  few-shapes : {n : ℕ} {S : Term} → Nth (shapes (w .p)) n S → n < 1025
+  few-shapes : {n : ℕ} {S : Term} → Nth (shapes (w .p)) n S → n < firstCont
   few-shapes hs = shape-in-dir (w .setting) hs .0
 
   few-bodies : {k i : ℕ} {c : Clause} {A : Term} → Nth (w .p .clauses) k c → Nth (c .body) i A → bodyIndex (w .p) k i < 1024
   few-bodies hc hA = body-few (w .setting) hc hA
 
-  pub call-shape : slot < 1025 → ShapeAsked words dir slot
+  pub call-shape : slot < firstCont → ShapeAsked words dir slot
   call-shape l = at (w .row) (w .regular) (is ∙ w .slot)
     where
       at : (row : Row ℕ) → Regular (w .p) row → slot ≡ slotOf (w .p) row → ShapeAsked words dir slot
@@ -182,15 +182,15 @@ module _ {words dir table : List ℕ} {r : ℕ} (w : Stands words dir table r) (
       at _ (regular-cont hc hA within small) e = absurd (omega arith)
       at _ (regular-solution hs within small) e = absurd (omega arith)
 
-  pub solution-shape : 2050 ≤ slot → ShapeAsked words dir (slot - 2050)
+  pub solution-shape : firstSolution ≤ slot → ShapeAsked words dir (slot - firstSolution)
   solution-shape l = at (w .row) (w .regular) (is ∙ w .slot)
     where
-      at : (row : Row ℕ) → Regular (w .p) row → slot ≡ slotOf (w .p) row → ShapeAsked words dir (slot - 2050)
+      at : (row : Row ℕ) → Regular (w .p) row → slot ≡ slotOf (w .p) row → ShapeAsked words dir (slot - firstSolution)
       at _ (regular-call hs within small) e = absurd (omega (arith, few-shapes hs))
       at _ (regular-cont hc hA within small) e = absurd (omega (arith, few-bodies hc hA))
-      at _ (regular-solution {s = n} {S = S} hs within small) e = let f : slot - 2050 ≡ n = omega arith in record { p = w .p; setting = w .setting; S = S; nth-shape = rw f hs }
+      at _ (regular-solution {s = n} {S = S} hs within small) e = let f : slot - firstSolution ≡ n = omega arith in record { p = w .p; setting = w .setting; S = S; nth-shape = rw f hs }
 
-  pub call-concerns : (set : List ℕ) (q : ℕ) → ((a : ShapeAsked words dir slot) → q ≡ predicateOf (a .S)) → slot < 1025 → HeadsEntered (w .p) set → (k : ℕ)
+  pub call-concerns : (set : List ℕ) (q : ℕ) → ((a : ShapeAsked words dir slot) → q ≡ predicateOf (a .S)) → slot < firstCont → HeadsEntered (w .p) set → (k : ℕ)
       → Concerns (w .p) k (w .row) → Has (getD set q 0) k
   call-concerns set q named l entered k h = at (w .row) (is ∙ w .slot) (w .regular) h
     where
@@ -201,7 +201,7 @@ module _ {words dir table : List ℕ} {r : ℕ} (w : Stands words dir table r) (
       at _ e (regular-cont hc hA within small) by-cont = absurd (omega arith)
       at _ e g (by-solution hc hA hs same) = absurd (omega arith)
 
-  pub solution-concerns : (set : List ℕ) (q : ℕ) → ((a : ShapeAsked words dir (slot - 2050)) → q ≡ predicateOf (a .S)) → 2050 ≤ slot → BodiesEntered (w .p) set → (k : ℕ)
+  pub solution-concerns : (set : List ℕ) (q : ℕ) → ((a : ShapeAsked words dir (slot - firstSolution)) → q ≡ predicateOf (a .S)) → firstSolution ≤ slot → BodiesEntered (w .p) set → (k : ℕ)
       → Concerns (w .p) k (w .row) → Has (getD set q 0) k
   solution-concerns set q named l entered k h = at (w .row) (is ∙ w .slot) (w .regular) h
     where
@@ -209,11 +209,11 @@ module _ {words dir table : List ℕ} {r : ℕ} (w : Stands words dir table r) (
       at _ e g (by-call hc hs same) = absurd (omega (arith, few-shapes hs))
       at _ e (regular-cont hc hA within small) by-cont = absurd (omega (arith, few-bodies hc hA))
       at _ e g (by-solution {i = i} {s = n} {c = c} {A = A} {S = S} hc hA hs same) =
-          let d : slot - 2050 ≡ n = omega arith in
+          let d : slot - firstSolution ≡ n = omega arith in
           let f : q ≡ predicateOf A = named (record { p = w .p; setting = w .setting; S = S; nth-shape = rw d hs }) ∙ sym same in
           rw f (entered k i c A hc hA)
 
-  pub cont-concerns : (k′ : ℕ) → ((b : BodyOf (w .p) (slot - 1025)) → k′ ≡ b .k) → 1025 ≤ slot → slot < 2050 → (k : ℕ) → Concerns (w .p) k (w .row) → (k′ ≡ k) × (k < 64)
+  pub cont-concerns : (k′ : ℕ) → ((b : BodyOf (w .p) (slot - firstCont)) → k′ ≡ b .k) → firstCont ≤ slot → slot < firstSolution → (k : ℕ) → Concerns (w .p) k (w .row) → (k′ ≡ k) × (k < 64)
   cont-concerns k′ named l l′ k h = at (w .row) (is ∙ w .slot) (w .regular) h
     where
       at : (row : Row ℕ) → slot ≡ slotOf (w .p) row → Regular (w .p) row → Concerns (w .p) k row → (k′ ≡ k) × (k < 64)

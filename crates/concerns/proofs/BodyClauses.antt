@@ -11,7 +11,7 @@ use Rattle.program.specs.Shapes.{shapes}
 use Rattle.program.proofs.Nths.{nth-below, below-nth}
 use Rattle.directory.specs.Layout.{clauseFirst, dirWords}
 use Rattle.table.specs.Rules.{Row}
-use Rattle.table.specs.Keys.{bodyIndex, Regular, regular-call, regular-cont, regular-solution, slotOf}
+use Rattle.table.specs.Keys.{bodyIndex, Regular, regular-call, regular-cont, regular-solution, slotOf, firstCont, firstSolution}
 use Rattle.table.proofs.Keys.{index-below}
 use Rattle.steps.specs.Situation.{Setting, BodyOf}
 use Rattle.steps.proofs.Meetings.{setting-within}
@@ -85,14 +85,14 @@ module _ {words dir : List ℕ} {p : Program} (s : Setting words dir p) where
         (omega (arith, index-below p (b .nth-clause) (b .nth-atom), b .is, d .body-count, d .bodies-most), omega (arith, body-first))
 
   -- slots of call rows and of cont rows stay below the next kind's
-  pub shapes-below : {n : ℕ} {S : Term} → Nth (shapes p) n S → n < 1025
+  pub shapes-below : {n : ℕ} {S : Term} → Nth (shapes p) n S → n < firstCont
   shapes-below h = let d = s .directory in omega (arith, nth-below h, d .shape-count, d .shapes-most)
 
-  pub bodies-below : {k i : ℕ} {c : Clause} {A : Term} → Nth (p .clauses) k c → Nth (c .body) i A → bodyIndex p k i < 1025
+  pub bodies-below : {k i : ℕ} {c : Clause} {A : Term} → Nth (p .clauses) k c → Nth (c .body) i A → bodyIndex p k i < firstCont
   bodies-below hc hA = let d = s .directory in omega (arith, index-below p hc hA, d .body-count, d .bodies-most)
 
   -- the body atom of a cont row
-  pub cont-body : (row : Row ℕ) → Regular p row → (slot : ℕ) → slot ≡ slotOf p row → 1025 ≤ slot → slot < 2050 → BodyOf p (slot - 1025)
+  pub cont-body : (row : Row ℕ) → Regular p row → (slot : ℕ) → slot ≡ slotOf p row → firstCont ≤ slot → slot < firstSolution → BodyOf p (slot - firstCont)
   cont-body _ (regular-call hs w l) slot e h h′ = absurd (omega (arith, shapes-below hs))
   cont-body _ (regular-cont {k = k} {i = i} {c = c} {A = A} hc hA w l) slot e h h′ =
       record { k = k; i = i; c = c; A = A; nth-clause = hc; nth-atom = hA; is = omega arith }

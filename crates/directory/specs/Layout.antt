@@ -1,5 +1,5 @@
 -- Where each part of a directory begins. The names are those of src/layout.rt.
-use Prim.Native.Nat.{ℕ}
+use Prim.Native.Nat.{ℕ, _+_}
 
 -- single entries: how many body atoms and clauses; where the functions' arities and the clauses begin in the words; the goal
 abbrev pub bodyCount : ℕ
@@ -72,13 +72,13 @@ shapeNext = 6477
 abbrev pub shapeCells : ℕ
 shapeCells = 7502
 
+-- the shapes have at most so many cells
+abbrev pub maxShapeCells : ℕ
+maxShapeCells = 2048
+
 abbrev pub dirWords : ℕ
-dirWords = 9550
+dirWords = shapeCells + maxShapeCells
 
 -- how many words stand before the predicates' arities: the three counts
 abbrev pub predicatesStart : ℕ
 predicatesStart = 3
-
--- the shapes have at most so many cells
-abbrev pub maxShapeCells : ℕ
-maxShapeCells = 2048

@@ -42,4 +42,12 @@ pub const SHAPE_NEXT: usize = 6477;
 
 pub const SHAPE_CELLS: usize = 7502;
 
+// The shapes have at most so many cells.
+const MAX_SHAPE_CELLS: usize = 2048;
+
+pub const DIR_WORDS: usize = SHAPE_CELLS + MAX_SHAPE_CELLS;
+
 pub const PREDICATES_START: usize = 3;
+
+// The goal and 64 bodies of 16 atoms have at most so many shapes.
+pub const MAX_SHAPES: usize = 1025;

@@ -6,6 +6,7 @@ use mathlib.Core.List.{List}
 use lib.ListN.{length, replicate}
 use Rattle.marks.specs.Modes.{modes}
 use Rattle.program.specs.Program.{Program}
+use Rattle.program.specs.Limits.{maxRows}
 use Rattle.rows.specs.MaskSet.{setWords}
 use Rattle.table.specs.NewRows.{NewGoesOn, NewEnds, LateCalls}
 use Rattle.table.specs.RoundKeys.{Keyed}
@@ -21,5 +22,5 @@ WithHead p ks₀ ks k key = Keyed p (NewGoesOn modes p (RowsIn p ks₀) (RowsIn 
 
 -- the scratch of a round: a list for the answers, and nothing found
 pub record Scratch (answers found : List ℕ) : Type 0 where
-  pub all-answers : length answers ≡ 4096
+  pub all-answers : length answers ≡ maxRows
   pub none-found : found ≡ replicate setWords 0

@@ -7,6 +7,7 @@ use steps::meet::first_variables;
 use terms::walk::wide;
 ghost use mathlib.Core.Path.{_≡_};
 ghost use lib.ListN.{length, replicate};
+ghost use Rattle.program.specs.Limits.{maxRows};
 ghost use Rattle.rows.specs.MaskSet.{setWords};
 ghost use Rattle.steps.specs.Situation.{HeadAsked};
 ghost use Rattle.steps.specs.Heads.{HeadMark, Collected, Told};
@@ -29,7 +30,7 @@ pub fn head_marks<'a>(
     unifiers: &mut [u8],
 ) -> bool
     requires { ⌜ HeadAsked (now words) (now dir) (now table) (now heads) since before k × (now found ≡ replicate setWords 0)
-        × (length (now answers) ≡ 4096) × KeepsAnswers (now words) (now dir) (now table) (now answered) before
+        × (length (now answers) ≡ maxRows) × KeepsAnswers (now words) (now dir) (now table) (now answered) before
         × HeadNotes (now words) (now dir) k (now unifiers) ⌝ }
     ensures { λ r. ⌜ KeepsAnswers (now (words .entry)) (now (dir .entry)) (now (table .entry)) (now (answered .exit)) before
         × ((w : HeadAsked (now (words .entry)) (now (dir .entry)) (now (table .entry)) (now (heads .entry)) since before k)

@@ -7,3 +7,5 @@ pub const KEPT_SET: usize = 32;
 
 // Behind the sets, for each clause, of how many rows they are the result.
 pub const KEPT_ROWS: usize = KEPT_SET * THINGS;
+
+pub const KEPT_WORDS: usize = KEPT_ROWS + THINGS;

@@ -9,7 +9,7 @@ use mathlib.Core.List.{List, [], _∷_, _++_, List·Memᴰ, List·Memᴰ·head, 
 use lib.ListN.{length, take, set, length-set}
 use lib.Seq.{take-suc-set, take-set-le}
 use Rattle.terms.proofs.Masks.{has-decided}
-use Rattle.program.specs.Limits.{masks}
+use Rattle.program.specs.Limits.{masks, maxRows}
 use Rattle.program.specs.Lists.{Distinct}
 use Rattle.rows.specs.MaskSet.{InSet, Inserted}
 use Rattle.program.proofs.OwnShape.{upTo, length-upTo, upTo-has}
@@ -97,7 +97,7 @@ module _ {P : ℕ → Type 0} {seen answers : List ℕ} {count r : ℕ} {answers
       there = f .listing .same m small .0 (old (has-decided _ _))
 
   -- the answer is new
-  pub found-new : {seen′ : List ℕ} → length seen′ ≡ length seen → r < 4096 → Inserted seen seen′ m true → Found (λ q. P q ⊎ (q ≡ m)) seen′ (set answers r m) count (r + 1) answers₀
+  pub found-new : {seen′ : List ℕ} → length seen′ ≡ length seen → r < maxRows → Inserted seen seen′ m true → Found (λ q. P q ⊎ (q ≡ m)) seen′ (set answers r m) count (r + 1) answers₀
   found-new size room i =
       record {
         listing =

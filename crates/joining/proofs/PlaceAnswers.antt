@@ -42,7 +42,7 @@ pub answered-as : {p : Program} {table : List ℕ} {A : Term} {since rows newest
 answered-as a e h = rw a (rw e h)
 
 -- nothing is listed yet
-pub listing-none : (seen answers : List ℕ) → seen ≡ replicate setWords 0 → length answers ≡ 4096 → Listing seen answers 0
+pub listing-none : (seen answers : List ℕ) → seen ≡ replicate setWords 0 → length answers ≡ maxRows → Listing seen answers 0
 listing-none seen answers zeros size =
     record {
       set-size = rw zeros (length-replicate {A = ℕ} setWords 0);

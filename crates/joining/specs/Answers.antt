@@ -20,8 +20,8 @@ use Rattle.steps.specs.Situation.{Situation, BodyOf}
 -- the first `count` answers are those seen
 pub record Listing (seen answers : List ℕ) (count : ℕ) : Type 0 where
   pub set-size : length seen ≡ setWords
-  pub list-size : length answers ≡ 4096
-  pub within : count ≤ 4096
+  pub list-size : length answers ≡ maxRows
+  pub within : count ≤ maxRows
   pub small : (q : ℕ) → List·Memᴰ q (take count answers) → q < masks
   pub same : (q : ℕ) → q < masks → InSet seen q ↔ List·Memᴰ q (take count answers)
   pub distinct : Distinct (take count answers)

@@ -7,7 +7,7 @@ use directory::layout::SHAPE_VARS;
 use marks::pass::pass_on;
 use marks::variables::variables_of;
 use rows::maskset::insert;
-use rows::row::MAX_ROWS;
+use program::limits::MAX_ROWS;
 use rows::row::before_at;
 use rows::row::mask_at;
 use steps::meet::first_variables;

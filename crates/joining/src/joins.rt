@@ -17,6 +17,7 @@ ghost use mathlib.Core.Path.{_≡_};
 ghost use Prim.Native.Nat.{ℕ, suc, _+_, _≤_, _<_};
 ghost use lib.ListN.{length, replicate};
 ghost use Rattle.marks.specs.Modes.{modes};
+ghost use Rattle.program.specs.Limits.{maxRows};
 ghost use Rattle.rows.specs.Rows.{keysOf};
 ghost use Rattle.rows.specs.MaskSet.{setWords, InSet};
 ghost use Rattle.table.specs.NewRows.{NewGoesOn};
@@ -136,7 +137,7 @@ pub fn middle_place<'a>(
     j: usize,
 ) -> usize
     requires { ⌜ MiddleAsked (now words) (now dir) (now table) (now heads) (at .since) (at .rows) j × Writable (now table) (now buckets) n (at .room) × (at .rows ≤ n)
-        × (now seen ≡ replicate setWords 0) × (length (now answers) ≡ 4096) × KeepsAnswers (now words) (now dir) (now table) (now answered) (at .rows) ⌝ }
+        × (now seen ≡ replicate setWords 0) × (length (now answers) ≡ maxRows) × KeepsAnswers (now words) (now dir) (now table) (now answered) (at .rows) ⌝ }
     ensures { λ r. ⌜ (now (seen .exit) ≡ replicate setWords 0)
         × KeepsAnswers (now (words .entry)) (now (dir .entry)) (now (table .entry)) (now (answered .exit)) (at .rows)
         × ((w : Situation (now (words .entry)) (now (dir .entry)) (now (table .entry)) (now (heads .entry)) (at .since) (at .rows)) (b : BodyOf (w .p) j)
@@ -246,7 +247,7 @@ pub fn last_place<'a>(
     found: &mut [u16],
 ) -> bool
     requires { ⌜ LastAsked (now words) (now dir) (now table) (now heads) since before j there × (now found ≡ replicate setWords 0)
-        × (length (now answers) ≡ 4096) × KeepsAnswers (now words) (now dir) (now table) (now answered) before ⌝ }
+        × (length (now answers) ≡ maxRows) × KeepsAnswers (now words) (now dir) (now table) (now answered) before ⌝ }
     ensures { λ r. ⌜ KeepsAnswers (now (words .entry)) (now (dir .entry)) (now (table .entry)) (now (answered .exit)) before
         × ((w : Situation (now (words .entry)) (now (dir .entry)) (now (table .entry)) (now (heads .entry)) since before) (b : BodyOf (w .p) j)
         → Collected (HeadMark (w .p) (now (table .entry)) since before (b .k) (suc (b .i))) (now (found .entry)) (now (found .exit))

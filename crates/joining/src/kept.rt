@@ -18,6 +18,8 @@ const ANSWER_SET: usize = 16;
 // Behind the sets, for each atom, of how many rows they have the answers.
 pub const ANSWER_ROWS: usize = ANSWER_SET * THINGS;
 
+pub const ANSWER_WORDS: usize = ANSWER_ROWS + THINGS;
+
 // The first `upto` answers, beside those that are kept for body atom j.
 pub fn keep_answers(
     order: &[u8; 16],

@@ -14,6 +14,7 @@ use terms::walk::narrow;
 use terms::walk::wide;
 ghost use mathlib.Core.Path.{_≡_};
 ghost use lib.ListN.{length, replicate};
+ghost use Rattle.program.specs.Limits.{maxRows};
 ghost use Rattle.rows.specs.MaskSet.{setWords};
 ghost use Rattle.steps.specs.Situation.{Situation, BodyOf};
 ghost use Rattle.joining.specs.Joined.{AnswersThere, Answered, BodyAsked};
@@ -38,7 +39,7 @@ fn list_anew<'a>(
     j: usize,
     newest: usize,
 ) -> Counts
-    requires { ⌜ BodyAsked (now words) (now dir) (now table) (now heads) since before j × (now seen ≡ replicate setWords 0) × (length (now answers) ≡ 4096) ⌝ }
+    requires { ⌜ BodyAsked (now words) (now dir) (now table) (now heads) since before j × (now seen ≡ replicate setWords 0) × (length (now answers) ≡ maxRows) ⌝ }
     ensures { λ r. ⌜ (now (seen .exit) ≡ replicate setWords 0) × AnswersThere (now (answers .exit)) (r .fresh) (r .all)
         × ((w : Situation (now (words .entry)) (now (dir .entry)) (now (table .entry)) (now (heads .entry)) since before) (b : BodyOf (w .p) j)
         → Answered (w .p) (now (table .entry)) (b .A) since before newest (now (answers .exit)) (r .fresh) (r .all)) ⌝ }
@@ -84,7 +85,7 @@ fn list_kept<'a>(
     j: usize,
     newest: usize,
 ) -> Counts
-    requires { ⌜ KeptAsked (now words) (now dir) (now table) (now heads) (now order) count since before j × (now seen ≡ replicate setWords 0) × (length (now answers) ≡ 4096)
+    requires { ⌜ KeptAsked (now words) (now dir) (now table) (now heads) (now order) count since before j × (now seen ≡ replicate setWords 0) × (length (now answers) ≡ maxRows)
         × KeepsAnswers (now words) (now dir) (now table) (now answered) before ⌝ }
     ensures { λ r. ⌜ (now (seen .exit) ≡ replicate setWords 0) × AnswersThere (now (answers .exit)) (r .fresh) (r .all)
         × KeepsAnswers (now (words .entry)) (now (dir .entry)) (now (table .entry)) (now (answered .exit)) before
@@ -137,7 +138,7 @@ pub fn list_answers<'a>(
     j: usize,
     newest: usize,
 ) -> Counts
-    requires { ⌜ BodyAsked (now words) (now dir) (now table) (now heads) since before j × (now seen ≡ replicate setWords 0) × (length (now answers) ≡ 4096)
+    requires { ⌜ BodyAsked (now words) (now dir) (now table) (now heads) since before j × (now seen ≡ replicate setWords 0) × (length (now answers) ≡ maxRows)
         × KeepsAnswers (now words) (now dir) (now table) (now answered) before ⌝ }
     ensures { λ r. ⌜ (now (seen .exit) ≡ replicate setWords 0) × AnswersThere (now (answers .exit)) (r .fresh) (r .all)
         × KeepsAnswers (now (words .entry)) (now (dir .entry)) (now (table .entry)) (now (answered .exit)) before

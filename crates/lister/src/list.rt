@@ -1,6 +1,7 @@
 // The lister: from a program with its names, the table in lent words and its listing in lent bytes.
 use crate::listing::listing;
 use analysis::analyse::tabled;
+use directory::layout::DIR_WORDS;
 use program::reply::ACCEPTED;
 use program::reply::NO_ROOM;
 use program::reply::Reply;
@@ -55,7 +56,7 @@ fn accepted(words: &[u16], names: &[u8], table: &mut [u16], out: &mut [u8]) -> R
     requires { ⌜ SoundBoth (now words) (now names) ⌝ }
     ensures { λ r. ⌜ ListingPromise (now (words .entry)) (now (names .entry)) (length (now (table .entry))) (length (now (out .entry))) r (now (table .exit)) (now (out .exit)) ⌝ }
 {
-    let mut dir = [0u16; 9550];
+    let mut dir = [0u16; DIR_WORDS];
     let analysed = tabled(words, &mut dir, table);
     if analysed.number != ACCEPTED {
         return refuse(analysed.number, analysed.place, table, out);

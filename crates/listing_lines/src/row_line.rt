@@ -3,7 +3,7 @@ use crate::letters::put_letters;
 use directory::layout::BODY_LIST;
 use directory::layout::CLAUSE_FIRST;
 use directory::layout::SHAPE_VARS;
-use rows::row::ROW_SIZE;
+use program::limits::ROW_SIZE;
 use steps::meet::first_variables;
 use terms::walk::wide;
 use text::cut::LINE_FEED;

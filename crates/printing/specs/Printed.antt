@@ -1,10 +1,11 @@
 -- What `modes` prints for a text: "it, or one line `refused`, number, place".
-use Prim.Native.Nat.{ℕ}
+use Prim.Native.Nat.{ℕ, _*_}
 use mathlib.Core.Path.{_≡_}
 use mathlib.Core.Bool.{cond}
 use mathlib.Core.List.{List, [], _∷_}
 use lib.ListN.{take}
 use lib.Dec.{eqb}
+use Rattle.program.specs.Limits.{rowSize, maxRows}
 use Rattle.program.specs.Reply.{accepted}
 use Rattle.program.specs.declared.reply.Reply.{Reply}
 use Rattle.text.specs.Decimal.{decimal}
@@ -21,9 +22,9 @@ refusedWord = 114 ∷ 101 ∷ 102 ∷ 117 ∷ 115 ∷ 101 ∷ 100 ∷ []
 abbrev pub refusedLine : ℕ → ℕ → List ℕ
 refusedLine number place = line refusedWord (decimal number ∷ decimal place ∷ [])
 
--- "with room for .. 4,096 rows and 65,536 bytes": a row is five words
+-- "with room for .. 4,096 rows and 65,536 bytes"
 abbrev pub tableRoom : ℕ
-tableRoom = 20480
+tableRoom = rowSize * maxRows
 
 abbrev pub listingRoom : ℕ
 listingRoom = 65536

@@ -1,5 +1,6 @@
 // What is printed for a text, in lent bytes.
 use lister::list::list;
+use program::limits::TABLE_WORDS;
 use program::reply::ACCEPTED;
 use reader::read::read;
 use terms::walk::wide;
@@ -32,7 +33,7 @@ fn print_listing(words: &[u16], names: &[u8], out: &mut [u8]) -> usize
     requires { ⌜ length (now out) ≡ listingRoom ⌝ }
     ensures { λ r. ⌜ (r ≤ listingRoom) × PrintedOf (now (words .entry)) (now (names .entry)) (take r (now (out .exit))) ⌝ }
 {
-    let mut table = [0u16; 20480];
+    let mut table = [0u16; TABLE_WORDS];
     let reply = list(words, names, &mut table, out);
     if reply.number == ACCEPTED {
         return reply.count;

@@ -19,3 +19,8 @@ pub const ATOM_CELLS: usize = 32;
 pub const GROUND_MODE: usize = 1;
 
 pub const MAX_ROWS: usize = 4096;
+
+pub const ROW_SIZE: usize = 5;
+
+// A table of so many words has room for every row.
+pub const TABLE_WORDS: usize = ROW_SIZE * MAX_ROWS;

@@ -4,6 +4,8 @@ use cases::least;
 use cases::next;
 use cases::print;
 use cases::print_words;
+use directory::layout::DIR_WORDS;
+use directory::layout::MAX_SHAPES;
 use directory::layout::SHAPE_CELLS;
 use directory::layout::SHAPE_COUNT;
 use directory::layout::SHAPE_START;
@@ -16,9 +18,9 @@ ghost use Prim.Native.Nat.{_<_};
 ghost use mathlib.Core.Path.{_≡_};
 ghost use lib.ListN.{length};
 ghost use Rattle.program.specs.Limits.{maxShapes};
-ghost use Rattle.directory.specs.Layout.{dirWords};
 ghost use Rattle.program.specs.Program.{Program};
 ghost use Rattle.program.specs.Faults.{faults, sound};
+ghost use Rattle.directory.specs.Layout.{dirWords};
 
 fn shape(dir: &[u16], s: usize)
     requires { ⌜ (length (now dir) ≡ dirWords) × (s < maxShapes) ⌝ }
@@ -35,9 +37,9 @@ fn shape(dir: &[u16], s: usize)
 fn shapes(words: &[u16])
     requires { ⌜ ((p : Program) × (faults (now words) ≡ sound p)) ⌝ }
 {
-    let mut dir = [0u16; 9550];
+    let mut dir = [0u16; DIR_WORDS];
     directory(words, &mut dir);
-    let count = least(wide(dir[SHAPE_COUNT]), 1025);
+    let count = least(wide(dir[SHAPE_COUNT]), MAX_SHAPES);
     let mut s = 0;
     while s < count {
         shape(&dir, s);

@@ -8,7 +8,7 @@ use mathlib.Core.List.{List, [], _∷_, List·Memᴰ, List·Memᴰ·not-nil}
 use lib.ListN.{length, replicate, length-replicate}
 use Rattle.marks.specs.Modes.{modes}
 use Rattle.program.specs.Program.{Program}
-use Rattle.program.specs.Limits.{rowSize}
+use Rattle.program.specs.Limits.{rowSize, maxRows}
 use Rattle.program.proofs.ProgramWords.{sound-within}
 use Rattle.rows.specs.Rows.{slots, roundAt, maskAt, keyAt, keysOf, keyOf}
 use Rattle.rows.specs.Store.{Added, there, new, full}
@@ -166,7 +166,7 @@ module _ (words dir : List ℕ) (p : Program) (setting : Setting words dir p) wh
         at (new out h e g) = absurd (omega arith)
         at (full out h e t b) = e
 
-    pub round-zero-there : r ≤ room → room ≤ 4096 → rowSize * room ≤ length table → heads ≡ replicate slots 0 → Rounding p table buckets heads room 0 r 1
+    pub round-zero-there : r ≤ room → room ≤ maxRows → rowSize * room ≤ length table → heads ≡ replicate slots 0 → Rounding p table buckets heads room 0 r 1
     round-zero-there l most fits none = at added
       where
         at : Added table₀ buckets₀ 0 room 0 0 mask r table buckets → Rounding p table buckets heads room 0 r 1

@@ -5,7 +5,7 @@ ghost use lib.ListN.{length};
 ghost use Rattle.program.specs.Limits.{rowSize, maxRows};
 ghost use Rattle.rows.specs.Rows.{slots, slotAt};
 ghost use Rattle.rows.specs.Linked.{BySlot, Linked};
-use crate::row::ROW_SIZE;
+use program::limits::ROW_SIZE;
 use crate::row::slot_at;
 use terms::walk::wide;
 

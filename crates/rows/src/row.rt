@@ -1,4 +1,4 @@
-// The words of a row: row r stands at words 5r to 5r + 4.
+// The words of a row: round, slot, mask, and the links to the rows before of the same slot and in the same bucket.
 ghost use mathlib.Core.Path.{_≡_};
 ghost use mathlib.Core.Logic.{_↔_};
 ghost use Prim.Native.Nat.{_+_, _*_, _<_};
@@ -7,13 +7,13 @@ ghost use lib.Dec.{T};
 ghost use Rattle.program.specs.Limits.{rowSize, masks};
 ghost use Rattle.rows.specs.Rows.{slots, buckets, roundAt, slotAt, maskAt, beforeAt, nextAt, bucketOf};
 ghost use Rattle.rows.specs.Store.{withRow};
+use program::limits::ROW_SIZE;
 use terms::walk::wide;
 
-pub const ROW_SIZE: usize = 5;
+// Masks are below this.
+pub const MASKS: usize = 65536;
 
 pub const BUCKETS: usize = 2048;
-
-pub const MAX_ROWS: usize = 4096;
 
 pub fn round_at(table: &[u16], r: usize) -> u16
     requires { ⌜ rowSize * r + 4 < length (now table) ⌝ }
@@ -69,7 +69,7 @@ pub fn bucket(slot: u16, mask: u16) -> usize
     requires { ⌜ (slot < slots) × (mask < masks) ⌝ }
     ensures { λ v. ⌜ (v ≡ bucketOf slot mask) × (v < buckets) ⌝ }
 {
-    (wide(slot) * 65536 + wide(mask)) * 2654435769 / 1048576 % BUCKETS
+    (wide(slot) * MASKS + wide(mask)) * 2654435769 / 1048576 % BUCKETS
 }
 
 // Writes row r, which has no row before it of the same slot yet.

@@ -6,6 +6,7 @@ use lib.ListN.{length, getD}
 use Rattle.terms.specs.Term.{Term}
 use Rattle.program.specs.Program.{Nth, Program}
 use Rattle.program.specs.Shapes.{shapes}
+use Rattle.program.specs.Limits.{maxShapes}
 use Rattle.directory.specs.Directory.{predicateOf}
 use Rattle.steps.specs.Situation.{Setting}
 
@@ -20,4 +21,4 @@ pub record PredicateAsked (dir heads : List ℕ) (predicate first : ℕ) : Type 
   pub p : Program
   pub setting : Setting words dir p
   pub declared : predicate < length (p .predicates)
-  pub slots-there : first + 1025 ≤ length heads
+  pub slots-there : first + maxShapes ≤ length heads

@@ -1,6 +1,7 @@
 // A call row and a cont row for a body atom.
 use directory::layout::BODY_LIST;
 use directory::layout::BODY_SHAPE;
+use directory::layout::MAX_SHAPES;
 use marks::rows::kept;
 use marks::rows::renumber;
 use rows::store::add;
@@ -14,9 +15,12 @@ ghost use Rattle.steps.specs.Situation.{Place};
 ghost use Rattle.steps.specs.Steps.{RowsIn, Writable, Emitted, Stepped};
 
 // Where the slots of cont rows and of solution rows begin; those of call rows begin at 0.
-pub const CONTS: usize = 1025;
+pub const CONTS: usize = MAX_SHAPES;
 
-pub const SOLUTIONS: usize = 2050;
+pub const SOLUTIONS: usize = CONTS + MAX_SHAPES;
+
+// How many slots there are.
+pub const SLOTS: usize = SOLUTIONS + MAX_SHAPES;
 
 // A round: its number, how many rows there were before the last round and before this one, and the room in rows.
 pub struct Round {

@@ -5,13 +5,10 @@ use cases::least;
 use cases::next;
 use cases::print;
 use cases::print_words;
-use rows::row::MAX_ROWS;
-use rows::row::ROW_SIZE;
+use program::limits::ROW_SIZE;
+use program::limits::TABLE_WORDS;
 use terms::walk::wide;
 ghost use Prim.Native.Nat.{_≤_};
-
-// A table of the most rows.
-const TABLE_WORDS: usize = ROW_SIZE * MAX_ROWS;
 
 // One where the word is not 0.
 fn other(word: u16) -> usize

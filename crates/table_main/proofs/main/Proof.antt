@@ -1,15 +1,16 @@
 -- `main` is safe. The loop's invariant: the bytes still to be read are the buffer's. The measure is the turns left.
 -- Assumes nothing.
-use Prim.Native.Nat.{_≤_}
+use Prim.Native.Nat.{_*_, _≤_}
 use mathlib.Core.Path.{_≡_, sym}
 use borrow.Author.Needs.{needs}
 use lib.ListN.{length}
 use lib.Seq.{length-take-le}
+use Rattle.program.specs.Limits.{rowSize, maxRows}
 use Rattle.table_main.proofs.main.Statement.{statement}
 use Rattle.table_main.proofs.main.Tie as tie
 
 abbrev Inv-loop : tie.InvT-loop
-Inv-loop words₀ table₀ buffer₀ input₀ turns₀ words table buffer input turns = (length words ≡ 2050) × (length table ≡ 20480) × (length buffer ≡ 4096) × (input .end ≤ 4096)
+Inv-loop words₀ table₀ buffer₀ input₀ turns₀ words table buffer input turns = (length words ≡ 2050) × (length table ≡ rowSize * maxRows) × (length buffer ≡ 4096) × (input .end ≤ 4096)
 
 abbrev μ-loop : tie.MeasureT-loop
 μ-loop words₀ table₀ buffer₀ input₀ turns₀ words table buffer input turns = turns

@@ -3,6 +3,7 @@ use Prim.Native.Nat.{_+_, _-_, _≤_}
 use native.Mathlib.Omega.{arith}
 use mathlib.Core.Path.{_≡_, _∙_}
 use lib.ListN.{getD}
+use Rattle.table.specs.Keys.{firstCont}
 use Rattle.concerns.proofs.BodyClauses.{clause-few, place-few, place-left, cont-body}
 use Rattle.analysis.proofs.Unpacking.{as-call, as-cont, as-solution}
 use borrow.Author.Needs.{needs}
@@ -55,7 +56,7 @@ sub-place : tie.Need-sub-place
 sub-place c = let w = c .before .before .before .before .before .before .before .before .before .before .before .before .before .pre .0 in
     let b = (cont-body (w .setting) (w .row) (w .regular) (c .before .before .before .before .before .before .before .wide .result) (c .before .before .before .before .before .before .before .wide .ensures .0 ∙ c .before .before .before .before .before .before .before .before .slot-at .ensures ∙ w .slot) (c .before .before .before .before .if1 .left) (c .before .before .before .if2 .taken)) in
     let k : c .before .before .clause-of .result ≡ b .k = c .before .before .clause-of .ensures (record { p = w .p; setting = w .setting; body = b }) in
-    let f : getD (c .before .before .before .before .before .before .before .before .before .before .before .before .before .args .dir .now) (136 + c .before .before .clause-of .result) 0 ≤ c .before .before .before .before .before .before .before .wide .result - 1025 = rw k (place-few (w .setting) _ b .1) in
+    let f : getD (c .before .before .before .before .before .before .before .before .before .before .before .before .before .args .dir .now) (136 + c .before .before .clause-of .result) 0 ≤ c .before .before .before .before .before .before .before .wide .result - firstCont = rw k (place-few (w .setting) _ b .1) in
     rw (c .wide2 .ensures .0) f
 
 add-narrow : tie.Need-add-narrow
@@ -99,7 +100,7 @@ same-length-2 c = search needs
 returns-2 : tie.Need-returns-2
 returns-2 c = λ w. c .before .before .write2 .ensures
     ∙ rw (c .before .before .before .before .narrow2 .ensures, c .before .before .before .narrow3 .ensures)
-    (as-cont (w .setting) _ _ (w .row) (w .regular) _ _ (c .before .before .before .before .before .before .before .before .clause-of .result) (c .before .before .before .before .before .before .before .before .before .before .before .before .before .wide .result - 1025 - c .before .before .before .before .before .before .wide2 .result) (c .before .before .before .before .before .before .before .before .before .before .before .before .before .wide .ensures .0 ∙ c .before .before .before .before .before .before .before .before .before .before .before .before .before .before .slot-at .ensures ∙ w .slot) (c .before .before .before .before .before .before .before .before .before .before .before .mask-at .ensures ∙ w .its-mask) (c .before .before .before .before .before .before .before .before .before .before .if1 .left) (c .before .before .before .before .before .before .before .before .before .if2 .taken)
+    (as-cont (w .setting) _ _ (w .row) (w .regular) _ _ (c .before .before .before .before .before .before .before .before .clause-of .result) (c .before .before .before .before .before .before .before .before .before .before .before .before .before .wide .result - firstCont - c .before .before .before .before .before .before .wide2 .result) (c .before .before .before .before .before .before .before .before .before .before .before .before .before .wide .ensures .0 ∙ c .before .before .before .before .before .before .before .before .before .before .before .before .before .before .slot-at .ensures ∙ w .slot) (c .before .before .before .before .before .before .before .before .before .before .before .mask-at .ensures ∙ w .its-mask) (c .before .before .before .before .before .before .before .before .before .before .if1 .left) (c .before .before .before .before .before .before .before .before .before .if2 .taken)
     (λ b. let k : c .before .before .before .before .before .before .before .before .clause-of .result ≡ b .k = c .before .before .before .before .before .before .before .before .clause-of .ensures (record { p = w .p; setting = w .setting; body = b }) in
     (k, rw (c .before .before .before .before .before .before .wide2 .ensures .0, k) (place-left (w .setting) _ b))))
 

@@ -4,6 +4,7 @@ use borrow.Author.Needs.{needs}
 use mathlib.Core.Path.{_≡_, sym, ap, _∙_}
 use mathlib.Core.Logic.{inl, inr, ⊎-elim}
 use lib.ListN.{length, replicate}
+use Rattle.program.specs.Limits.{maxRows}
 use Rattle.rows.specs.Rows.{keysOf}
 use Rattle.rows.specs.MaskSet.{setWords}
 use Rattle.steps.specs.Situation.{HeadAsked}
@@ -77,7 +78,7 @@ returns c =
     )
 
 -- the rows for the body atoms behind the first are there
-past : (c : tie.Joined1) → (c .if1 .found ≡ replicate setWords 0) × (length (c .if1 .answers) ≡ 4096)
+past : (c : tie.Joined1) → (c .if1 .found ≡ replicate setWords 0) × (length (c .if1 .answers) ≡ maxRows)
     × ((w : HeadAsked (c .before .before .before .before .before .before .before .before .before .before .before .before .before .before .before .args .words .now) (c .before .before .before .before .before .before .before .before .before .before .before .before .before .before .before .args .dir .now) (c .before .before .before .before .before .before .before .before .before .before .before .before .before .before .before .args .table .now) (c .before .before .before .before .before .before .before .before .before .before .before .before .before .before .before .args .heads .now) (c .before .before .before .before .before .before .before .before .before .before .before .before .before .before .before .args .at .since) (c .before .before .before .before .before .before .before .before .before .before .before .before .before .before .before .args .at .rows) (c .before .before .before .before .before .before .before .before .before .before .before .before .before .before .before .args .k)) → Past (c .before .before .before .before .before .before .before .before .before .before .before .before .before .before .before .args .words .now) (c .before .before .before .before .before .before .before .before .before .before .before .before .before .before .before .args .dir .now) (c .before .before .before .before .before .before .before .before .before .before .before .before .before .before .before .args .heads .now) (c .before .before .before .before .before .before .before .before .before .before .before .before .before .before .before .args .table .now) (c .before .before .before .before .before .before .before .before .before .before .before .before .before .before .before .args .buckets .now) (c .before .before .before .before .before .before .before .before .before .before .before .before .before .before .before .args .at .since) (c .before .before .before .before .before .before .before .before .before .before .before .before .before .before .before .args .at .rows) (c .before .before .before .before .before .before .before .before .before .before .before .before .before .before .before .args .at .number) (c .before .before .before .before .before .before .before .before .before .before .before .before .before .before .before .args .at .room) (c .before .before .before .before .before .before .before .before .before .before .before .before .before .before .before .args .n) (c .before .before .before .before .before .before .before .before .before .before .before .before .before .before .before .pre .2) (c .before .before .before .before .before .before .before .before .before .before .before .before .before .before .before .args .k) w (c .if1 .rows) (c .if1 .table) (c .if1 .buckets))
     × KeepsAnswers (c .before .before .before .before .before .before .before .before .before .before .before .before .before .before .before .args .words .now) (c .before .before .before .before .before .before .before .before .before .before .before .before .before .before .before .args .dir .now) (c .if1 .table) (c .if1 .answered) (c .before .before .before .before .before .before .before .before .before .before .before .before .before .before .before .args .at .rows)
 past c =

@@ -1,5 +1,6 @@
 -- `printing::print::print_listing` meets its contract: what the lister promises is shown, its listing or its refusal. Assumes nothing.
 use Prim.Native.Nat.{ℕ}
+use Rattle.printing.specs.Printed.{tableRoom}
 use lib.ListN.{length-replicate}
 use borrow.Author.Needs.{needs}
 use Rattle.printing.proofs.Listings.{count-fits, listing-shown, refusal-shown}
@@ -17,7 +18,7 @@ same-length c = search needs
 
 returns : tie.Need-returns
 returns c =
-    let l = rw (c .before .before .before .before .before .before .before .before .before .before .before .pre, length-replicate {A = ℕ} 20480 0) at (c .before .before .before .before .before .list .ensures) in
+    let l = rw (c .before .before .before .before .before .before .before .before .before .before .before .pre, length-replicate {A = ℕ} tableRoom 0) at (c .before .before .before .before .before .list .ensures) in
     (count-fits l, listing-shown l (c .if1 .taken))
 
 refuse-requires : tie.Need-refuse-requires
@@ -28,7 +29,7 @@ same-length-2 c = search needs
 
 returns-2 : tie.Need-returns-2
 returns-2 c =
-    let l = rw (c .before .before .before .before .before .before .before .before .before .before .before .before .before .before .before .pre, length-replicate {A = ℕ} 20480 0) at (c .before .before .before .before .before .before .before .before .before .list .ensures) in
+    let l = rw (c .before .before .before .before .before .before .before .before .before .before .before .before .before .before .before .pre, length-replicate {A = ℕ} tableRoom 0) at (c .before .before .before .before .before .before .before .before .before .list .ensures) in
     (c .before .before .refuse .ensures .0, refusal-shown l (c .before .before .before .before .if1 .left) (c .before .before .refuse .ensures .1))
 
 pub print-listing-spec : {M : Type 1} → statement M
