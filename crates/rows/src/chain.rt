@@ -5,8 +5,8 @@ ghost use lib.ListN.{length};
 ghost use Rattle.program.specs.Limits.{rowSize, maxRows};
 ghost use Rattle.rows.specs.Rows.{slots, slotAt};
 ghost use Rattle.rows.specs.Linked.{BySlot, Linked};
-use program::limits::ROW_SIZE;
 use crate::row::slot_at;
+use program::limits::ROW_SIZE;
 use terms::walk::wide;
 
 // Puts the rows from..to into the chains of their slots, each before the older ones.
