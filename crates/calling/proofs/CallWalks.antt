@@ -14,7 +14,7 @@ use Rattle.rows.specs.Rows.{slotAt, maskAt, beforeAt, keysOf}
 use Rattle.rows.proofs.Adding.{same-mask}
 use Rattle.table.specs.Rules.{Reached}
 use Rattle.table.specs.RoundKeys.{Keyed}
-use Rattle.steps.specs.Steps.{RowsIn, Writable, Grew, Stepped, Emitted}
+use Rattle.steps.specs.Steps.{Given, RowsIn, Writable, Grew, Stepped, Emitted}
 use Rattle.calling.specs.Calls.{OpenedBy, OpenedFrom, Emits, EmitAsked}
 use Rattle.steps.proofs.Stepping.{keys-stay, grew-none, grew-must, stepped-then, stepped-within, stepped-past}
 use Rattle.calling.proofs.CallRows.{calls-newest, call-before, row-there, call-reached, opened-none, opened-next, opened-all}
@@ -35,7 +35,7 @@ module _ {dir order table sets : List ℕ} {count newest here there since rows j
   pub record Walking (link n′ : ℕ) (table′ buckets′ : List ℕ) : Type 0 where
     pub within : link ≤ rows
     pub own : (r : ℕ) → suc r ≡ link → slotAt table r ≡ a .calls .s
-    pub grew : Grew p (keysOf table rows) number room n table buckets (Emits p k (a .place .i) (From link)) n′ table′ buckets′
+    pub grew : Grew (Given p (keysOf table rows)) number room n table buckets (Emits p k (a .place .i) (From link)) n′ table′ buckets′
 
   pub walking-begins : Writable table buckets n room → Walking newest n table buckets
   walking-begins w =
@@ -43,7 +43,7 @@ module _ {dir order table sets : List ℕ} {count newest here there since rows j
       record {
         within = l .within;
         own = l .own;
-        grew = grew-none p (keysOf table rows) number room n table buckets _ w (λ key (N, o, _). absurd (opened-none (a .calls) N o));
+        grew = grew-none (Given p (keysOf table rows)) number room n table buckets _ w (λ key (N, o, _). absurd (opened-none (a .calls) N o));
       }
 
   module _ (behind : rows ≤ n) {link n′ : ℕ} {table′ buckets′ : List ℕ} (w : Walking link n′ table′ buckets′) (row : ℕ) (at : suc row ≡ link) where
@@ -72,20 +72,20 @@ module _ {dir order table sets : List ℕ} {count newest here there since rows j
           (call-reached (a .calls) row q row-below (w .own row at) passes-first))
 
       module _ {n″ : ℕ} {table″ buckets″ : List ℕ}
-          (s : Stepped p (keysOf table′ rows) number room n′ table′ buckets′ (Keyed p (Emitted p k (a .place .i) q)) n″ table″ buckets″) where
-        both : Stepped p (keysOf table rows) number room n table buckets
+          (s : Stepped (Given p (keysOf table′ rows)) number room n′ table′ buckets′ (Keyed p (Emitted p k (a .place .i) q)) n″ table″ buckets″) where
+        both : Stepped (Given p (keysOf table rows)) number room n table buckets
             (λ key. Emits p k (a .place .i) (From link) key ⊎ Keyed p (Emitted p k (a .place .i) q) key) n″ table″ buckets″
         both =
-            stepped-then p (keysOf table rows) number room n n′ n″ table buckets table′ buckets′ table″ buckets″ _ _ (w .grew)
-            (subst (λ (ks : List ℕ). Stepped p ks number room n′ table′ buckets′ (Keyed p (Emitted p k (a .place .i) q)) n″ table″ buckets″) keys-kept s)
+            stepped-then (Given p (keysOf table rows)) number room n n′ n″ table buckets table′ buckets′ table″ buckets″ _ _ (w .grew)
+            (subst (λ (ks : List ℕ). Stepped (Given p ks) number room n′ table′ buckets′ (Keyed p (Emitted p k (a .place .i) q)) n″ table″ buckets″) keys-kept s)
 
         -- no room is left
-        pub walking-full : room < n″ → (Must : ℕ → Type 0) → Stepped p (keysOf table rows) number room n table buckets Must n″ table″ buckets″
-        walking-full l Must = inr (stepped-past p (keysOf table rows) number room n n″ table buckets table″ buckets″ _ both l)
+        pub walking-full : room < n″ → (Must : ℕ → Type 0) → Stepped (Given p (keysOf table rows)) number room n table buckets Must n″ table″ buckets″
+        walking-full l Must = inr (stepped-past (Given p (keysOf table rows)) number room n n″ table buckets table″ buckets″ _ both l)
 
-        grown : n″ ≤ room → Grew p (keysOf table rows) number room n table buckets
+        grown : n″ ≤ room → Grew (Given p (keysOf table rows)) number room n table buckets
             (λ key. Emits p k (a .place .i) (From link) key ⊎ Keyed p (Emitted p k (a .place .i) q) key) n″ table″ buckets″
-        grown l = stepped-within p (keysOf table rows) number room n n″ table buckets table″ buckets″ _ both l
+        grown l = stepped-within (Given p (keysOf table rows)) number room n n″ table buckets table″ buckets″ _ both l
 
         -- the row before is nearer to the end
         pub walking-nearer : n″ ≤ room → (next : ℕ) → next ≡ beforeAt table″ row → next < link
@@ -97,7 +97,7 @@ module _ {dir order table sets : List ℕ} {count newest here there since rows j
             record {
               within = let f = walking-nearer l next e in omega (arith, w .within);
               own = λ r i. call-before (a .calls) row row-below .own r (i ∙ before) ∙ w .own row at;
-              grew = grew-must p (keysOf table rows) number room n n″ table buckets table″ buckets″ _ _ all (grown l);
+              grew = grew-must (Given p (keysOf table rows)) number room n n″ table buckets table″ buckets″ _ _ all (grown l);
             }
           where
             before : next ≡ beforeAt table row
@@ -110,7 +110,7 @@ module _ {dir order table sets : List ℕ} {count newest here there since rows j
 
   -- at the rows of earlier rounds all is done
   pub walking-ends : {link n′ : ℕ} {table′ buckets′ : List ℕ} → Walking link n′ table′ buckets′ → link ≤ since
-      → Stepped p (keysOf table rows) number room n table buckets (Emits p k (a .place .i) (OpenedBy p table since rows k (a .calls .s))) n′ table′ buckets′
+      → Stepped (Given p (keysOf table rows)) number room n table buckets (Emits p k (a .place .i) (OpenedBy p table since rows k (a .calls .s))) n′ table′ buckets′
   walking-ends {link} {n′} {table′} {buckets′} w l =
-      inl (grew-must p (keysOf table rows) number room n n′ table buckets table′ buckets′ _ _
+      inl (grew-must (Given p (keysOf table rows)) number room n n′ table buckets table′ buckets′ _ _
       (λ key (N, o, given). (N, opened-all (a .calls) link l N .1 o, given)) (w .grew))

@@ -20,7 +20,7 @@ ghost use lib.ListN.{length};
 ghost use Rattle.rows.specs.Rows.{keysOf};
 ghost use Rattle.rows.specs.MaskSet.{setWords};
 ghost use Rattle.steps.specs.Situation.{Situation, HeadAsked};
-ghost use Rattle.steps.specs.Steps.{Writable, Stepped};
+ghost use Rattle.steps.specs.Steps.{Given, Writable, Stepped};
 ghost use Rattle.steps.specs.Heads.{HeadMark, Collected, Told};
 ghost use Rattle.steps.specs.Unifiers.{Notes, HeadNotes};
 ghost use Rattle.calling.specs.Calls.{OpenedBy, Emits, EmitAsked, MarkAsked, MarkShape};
@@ -42,7 +42,7 @@ pub fn emit_shape(
 ) -> usize
     requires { ⌜ EmitAsked (now dir) (now order) (now table) (now sets) count newest here there (at .since) (at .rows) j × Writable (now table) (now buckets) n (at .room) × (at .rows ≤ n) ⌝ }
     ensures { λ r. ⌜ ((a : EmitAsked (now (dir .entry)) (now (order .entry)) (now (table .entry)) (now (sets .entry)) count newest here there (at .since) (at .rows) j)
-        → Stepped (a .place .p) (keysOf (now (table .entry)) (at .rows)) (at .number) (at .room) n (now (table .entry)) (now (buckets .entry))
+        → Stepped (Given (a .place .p) (keysOf (now (table .entry)) (at .rows))) (at .number) (at .room) n (now (table .entry)) (now (buckets .entry))
         (Emits (a .place .p) (a .place .k) (a .place .i) (OpenedBy (a .place .p) (now (table .entry)) (at .since) (at .rows) (a .place .k) (a .calls .s)))
         r (now (table .exit)) (now (buckets .exit))) ⌝ }
 {

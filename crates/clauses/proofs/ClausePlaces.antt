@@ -13,7 +13,7 @@ use Rattle.table.specs.Added.{Below}
 use Rattle.table.specs.NewRows.{NewGoesOn, NewIn}
 use Rattle.table.specs.RoundKeys.{Keyed}
 use Rattle.table.proofs.Looking.{by-places}
-use Rattle.steps.specs.Steps.{RowsIn, Writable, Grew, Stepped}
+use Rattle.steps.specs.Steps.{Given, RowsIn, Writable, Grew, Stepped}
 use Rattle.steps.specs.Situation.{HeadAsked}
 use Rattle.steps.proofs.Stepping.{grew-none, stepped-must}
 use Rattle.solving.proofs.SolveSets.{stepped-on}
@@ -53,17 +53,17 @@ module _ (words dir heads table₀ buckets₀ : List ℕ) (since rows round room
 
   -- the rows for the body atoms behind the first are there
   abbrev pub Past : ℕ → List ℕ → List ℕ → Type 0
-  Past n′ table buckets = Grew q (keysOf table₀ rows) round room n table₀ buckets₀ Middles n′ table buckets
+  Past n′ table buckets = Grew (Given q (keysOf table₀ rows)) round room n table₀ buckets₀ Middles n′ table buckets
 
   pub no-places : length (w .clause .c .body) ≡ 0 → Writable table₀ buckets₀ n room → Past n table₀ buckets₀
-  no-places e writable = grew-none q (keysOf table₀ rows) round room n table₀ buckets₀ _ writable (λ key (i, b, h). absurd (omega arith))
+  no-places e writable = grew-none (Given q (keysOf table₀ rows)) round room n table₀ buckets₀ _ writable (λ key (i, b, h). absurd (omega arith))
 
   -- and then what new call rows open, and what the clause ends in
   pub clause-ends : (n′ : ℕ) (table buckets : List ℕ) (g : Past n′ table buckets) (n″ : ℕ) (table′ buckets′ : List ℕ)
-      → Stepped q (keysOf table rows) round room n′ table buckets (WithHead q (keysOf table since) (keysOf table rows) k) n″ table′ buckets′
-      → Stepped q (keysOf table₀ rows) round room n table₀ buckets₀ (Keyed q (NewIn modes q (RowsIn q (keysOf table₀ since)) (RowsIn q (keysOf table₀ rows)) k)) n″ table′ buckets′
+      → Stepped (Given q (keysOf table rows)) round room n′ table buckets (WithHead q (keysOf table since) (keysOf table rows) k) n″ table′ buckets′
+      → Stepped (Given q (keysOf table₀ rows)) round room n table₀ buckets₀ (Keyed q (NewIn modes q (RowsIn q (keysOf table₀ since)) (RowsIn q (keysOf table₀ rows)) k)) n″ table′ buckets′
   clause-ends n′ table buckets g n″ table′ buckets′ step =
-      stepped-must q (keysOf table₀ rows) round room n n″ table₀ buckets₀ table′ buckets′ _ _
+      stepped-must (Given q (keysOf table₀ rows)) round room n n″ table₀ buckets₀ table′ buckets′ _ _
       (λ key h. ⊎-elim split (λ e. inr (inr e)) (by-places q (RowsIn q (keysOf table₀ since)) (RowsIn q (keysOf table₀ rows)) (w .clause .nth-clause) key .1 h))
       (stepped-on q since rows round room n n′ n″ table₀ buckets₀ table buckets table′ buckets′ Middles (λ ks₀ ks. WithHead q ks₀ ks k) (w .situation .chains .new) l g step)
     where

@@ -15,7 +15,7 @@ use Rattle.rows.specs.MaskSet.{setWords, InSet}
 use Rattle.rows.specs.KeptSets.{Gained, Unkept, things, knownOf, keptWords}
 use Rattle.rows.proofs.ClearedMarks.{cleared-empty}
 use Rattle.table.proofs.Added.{behind-keeps}
-use Rattle.steps.specs.Steps.{Writable, Stepped}
+use Rattle.steps.specs.Steps.{Given, Writable, Stepped}
 use Rattle.steps.specs.Situation.{HeadAsked}
 use Rattle.steps.specs.Heads.{HeadMark, Collected, FoundOn}
 use Rattle.steps.proofs.Stepping.{keys-stay, grew-none, stepped-then, stepped-must, stepped-within}
@@ -53,20 +53,20 @@ module _ (words dir table heads : List ℕ) (since rows k : ℕ) (w : HeadAsked 
       ))
 
   module _ (buckets : List ℕ) (number room n′ : ℕ) (table′ buckets′ : List ℕ)
-      (step : Stepped p (keysOf table rows) number room n table buckets
+      (step : Stepped (Given p (keysOf table rows)) number room n table buckets
       (HeadGives p (keysOf table known) (keysOf table rows) k (between kept (keptSet * k) (keptSet * k + keptSet)) new) n′ table′ buckets′) where
     -- with what was there, the step gives all that the clause ends in
-    pub kept-stepped : Writable table buckets n room → Stepped p (keysOf table rows) number room n table buckets (WithHead p (keysOf table since) (keysOf table rows) k) n′ table′ buckets′
+    pub kept-stepped : Writable table buckets n room → Stepped (Given p (keysOf table rows)) number room n table buckets (WithHead p (keysOf table since) (keysOf table rows) k) n′ table′ buckets′
     kept-stepped writable =
-        stepped-must p (keysOf table rows) number room n n′ table buckets table′ buckets′ _ _
+        stepped-must (Given p (keysOf table rows)) number room n n′ table buckets table′ buckets′ _ _
         (known-ends words dir table heads since rows k w kept keeping few (keptSet * k) (keptSet * k + keptSet) refl refl known (early .1) found new marked unkept (early .0))
-        (stepped-then p (keysOf table rows) number room n n n′ table buckets table buckets table′ buckets′ _ _
-        (grew-none p (keysOf table rows) number room n table buckets (λ key. List·Memᴰ key (keysOf table n)) writable (λ key m. m)) step)
+        (stepped-then (Given p (keysOf table rows)) number room n n n′ table buckets table buckets table′ buckets′ _ _
+        (grew-none (Given p (keysOf table rows)) number room n table buckets (λ key. List·Memᴰ key (keysOf table n)) writable (λ key m. m)) step)
 
     -- and the new marks are kept, and the rows before it are known
     pub kept-after : rows ≤ n → n′ ≤ room → (kept′ : List ℕ) → Gained (InSet new) (keptSet * k) keptSet kept kept′ → (rows′ : ℕ) → rows′ ≡ rows → KeepsMarks words dir table′ (set kept′ (keptSet * things + k) rows′) rows n′
     kept-after l within kept′ gained rows′ e =
-        let g = stepped-within p (keysOf table rows) number room n n′ table buckets table′ buckets′ _ step within in
+        let g = stepped-within (Given p (keysOf table rows)) number room n n′ table buckets table′ buckets′ _ step within in
         keeps-marks table′ (set kept′ (keptSet * things + k) rows′) rows n′ (w .situation .setting)
         (marks-stay (w .situation .setting) table table′ (set kept′ (keptSet * things + k) rows′) rows (keysOf table′ n′) (keysOf table′ n′) (λ m b. keys-stay table table′ n m (omega arith) (g .same-rows)) (λ key h. h)
         (rw e (known-keeps words dir table heads since rows k w kept keeping few (keptSet * k) (keptSet * k + keptSet) refl refl known (early .1) found new marked unkept kept′ (keysOf table′ n′) gained (behind-keeps _ _ _ (g .behind)) (g .all))))

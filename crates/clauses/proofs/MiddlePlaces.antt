@@ -15,7 +15,7 @@ use Rattle.table.specs.Keys.{bodyIndex}
 use Rattle.table.specs.Added.{Below}
 use Rattle.table.specs.NewRows.{NewGoesOn}
 use Rattle.table.specs.RoundKeys.{Keyed}
-use Rattle.steps.specs.Steps.{RowsIn, Writable, Grew, Stepped}
+use Rattle.steps.specs.Steps.{Given, RowsIn, Writable, Grew, Stepped}
 use Rattle.steps.specs.Situation.{Situation, BodyOf, MiddleAsked}
 use Rattle.clauses.specs.Clauses.{MiddlesAsked, PastPlaces}
 use Rattle.steps.proofs.Stepping.{keys-stay, grew-none, stepped-then, stepped-must}
@@ -57,7 +57,7 @@ module _ (words dir heads table₀ buckets₀ : List ℕ) (since rows first last
       }
 
   module _ (n′ : ℕ) (table buckets : List ℕ) (j : ℕ) (a : first ≤ j) (b : j < last)
-      (g : Grew p (keysOf table₀ rows) round room n table₀ buckets₀ (PastPlaces p (keysOf table₀ since) (keysOf table₀ rows) (w .k) (j - first)) n′ table buckets) where
+      (g : Grew (Given p (keysOf table₀ rows)) round room n table₀ buckets₀ (PastPlaces p (keysOf table₀ since) (keysOf table₀ rows) (w .k) (j - first)) n′ table buckets) where
     abbrev stands : Situation words dir table heads since rows
     stands =
         record {
@@ -73,23 +73,23 @@ module _ (words dir heads table₀ buckets₀ : List ℕ) (since rows first last
 
     pub middle-next : (n″ : ℕ) (table′ buckets′ : List ℕ)
         → ((s : Situation words dir table heads since rows) (d : BodyOf (s .p) j)
-        → Stepped (s .p) (keysOf table rows) round room n′ table buckets
+        → Stepped (Given (s .p) (keysOf table rows)) round room n′ table buckets
         (Keyed (s .p) (NewGoesOn modes (s .p) (RowsIn (s .p) (keysOf table since)) (RowsIn (s .p) (keysOf table rows)) (d .k) (suc (d .i)))) n″ table′ buckets′)
-        → Stepped p (keysOf table₀ rows) round room n table₀ buckets₀ (PastPlaces p (keysOf table₀ since) (keysOf table₀ rows) (w .k) (j + 1 - first)) n″ table′ buckets′
+        → Stepped (Given p (keysOf table₀ rows)) round room n table₀ buckets₀ (PastPlaces p (keysOf table₀ since) (keysOf table₀ rows) (w .k) (j + 1 - first)) n″ table′ buckets′
     middle-next n″ table′ buckets′ step =
         let e = keys-stay table₀ table n rows l (g .same-rows) in
         let f = keys-stay table₀ table n since (omega (arith, w .situation .chains .new)) (g .same-rows) in
-        stepped-must p (keysOf table₀ rows) round room n n″ table₀ buckets₀ table′ buckets′ _ _
+        stepped-must (Given p (keysOf table₀ rows)) round room n n″ table₀ buckets₀ table′ buckets′ _ _
         (λ key. below-one-more (λ i. Keyed p (NewGoesOn modes p (RowsIn p (keysOf table₀ since)) (RowsIn p (keysOf table₀ rows)) (w .k) (suc i))) (j - first) (j + 1 - first) key (omega arith))
-        (stepped-then p (keysOf table₀ rows) round room n n′ n″ table₀ buckets₀ table buckets table′ buckets′ _ _ g
+        (stepped-then (Given p (keysOf table₀ rows)) round room n n′ n″ table₀ buckets₀ table buckets table′ buckets′ _ _ g
         (rw (e, f) at (step stands (middle-body j a b))))
 
-  pub middles-begin : Writable table₀ buckets₀ n room → Grew p (keysOf table₀ rows) round room n table₀ buckets₀ (PastPlaces p (keysOf table₀ since) (keysOf table₀ rows) (w .k) (first - first)) n table₀ buckets₀
-  middles-begin writable = grew-none p (keysOf table₀ rows) round room n table₀ buckets₀ _ writable (λ key (i, b, h). absurd (omega arith))
+  pub middles-begin : Writable table₀ buckets₀ n room → Grew (Given p (keysOf table₀ rows)) round room n table₀ buckets₀ (PastPlaces p (keysOf table₀ since) (keysOf table₀ rows) (w .k) (first - first)) n table₀ buckets₀
+  middles-begin writable = grew-none (Given p (keysOf table₀ rows)) round room n table₀ buckets₀ _ writable (λ key (i, b, h). absurd (omega arith))
 
   pub middles-end : (n′ : ℕ) (table buckets : List ℕ) (j : ℕ) → first ≤ j → j ≤ last → last ≤ j
-      → Grew p (keysOf table₀ rows) round room n table₀ buckets₀ (PastPlaces p (keysOf table₀ since) (keysOf table₀ rows) (w .k) (j - first)) n′ table buckets
-      → Stepped p (keysOf table₀ rows) round room n table₀ buckets₀ (PastPlaces p (keysOf table₀ since) (keysOf table₀ rows) (w .k) (w .middles)) n′ table buckets
+      → Grew (Given p (keysOf table₀ rows)) round room n table₀ buckets₀ (PastPlaces p (keysOf table₀ since) (keysOf table₀ rows) (w .k) (j - first)) n′ table buckets
+      → Stepped (Given p (keysOf table₀ rows)) round room n table₀ buckets₀ (PastPlaces p (keysOf table₀ since) (keysOf table₀ rows) (w .k) (w .middles)) n′ table buckets
   middles-end n′ table buckets j a b d g =
       let e : j - first ≡ w .middles = omega (arith, w .last-is) in
-      inl (subst (λ (m : ℕ). Grew p (keysOf table₀ rows) round room n table₀ buckets₀ (PastPlaces p (keysOf table₀ since) (keysOf table₀ rows) (w .k) m) n′ table buckets) e g)
+      inl (subst (λ (m : ℕ). Grew (Given p (keysOf table₀ rows)) round room n table₀ buckets₀ (PastPlaces p (keysOf table₀ since) (keysOf table₀ rows) (w .k) m) n′ table buckets) e g)

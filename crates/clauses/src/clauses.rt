@@ -14,7 +14,7 @@ ghost use Rattle.rows.specs.MaskSet.{setWords};
 ghost use Rattle.table.specs.NewRows.{NewIn};
 ghost use Rattle.table.specs.RoundKeys.{Keyed};
 ghost use Rattle.steps.specs.Situation.{HeadAsked};
-ghost use Rattle.steps.specs.Steps.{RowsIn, Writable, Stepped};
+ghost use Rattle.steps.specs.Steps.{Given, RowsIn, Writable, Stepped};
 ghost use Rattle.steps.specs.Unifiers.{Room};
 ghost use Rattle.ends.specs.Ends.{Scratch};
 ghost use Rattle.clauses.specs.Clauses.{MiddlesAsked, PastPlaces};
@@ -40,7 +40,7 @@ fn middle_places<'a>(
         × (now seen ≡ replicate setWords 0) × (length (now answers) ≡ maxRows) × KeepsAnswers (now words) (now dir) (now table) (now answered) (at .rows) ⌝ }
     ensures { λ r. ⌜ (now (seen .exit) ≡ replicate setWords 0)
         × ((w : MiddlesAsked (now (words .entry)) (now (dir .entry)) (now (table .entry)) (now (heads .entry)) (at .since) (at .rows) first last)
-        → Stepped (w .situation .p) (keysOf (now (table .entry)) (at .rows)) (at .number) (at .room) n (now (table .entry)) (now (buckets .entry))
+        → Stepped (Given (w .situation .p) (keysOf (now (table .entry)) (at .rows))) (at .number) (at .room) n (now (table .entry)) (now (buckets .entry))
         (PastPlaces (w .situation .p) (keysOf (now (table .entry)) (at .since)) (keysOf (now (table .entry)) (at .rows)) (w .k) (w .middles)) r (now (table .exit)) (now (buckets .exit)))
         × (r ≤ at .room → KeepsAnswers (now (words .entry)) (now (dir .entry)) (now (table .exit)) (now (answered .exit)) (at .rows)) ⌝ }
 {
@@ -90,7 +90,7 @@ pub fn clause<'a>(
         × KeepsAnswers (now words) (now dir) (now table) (now answered) (at .rows) × Room (now unifiers) ⌝ }
     ensures { λ r. ⌜ Scratch (now (answers .exit)) (now (found .exit))
         × ((w : HeadAsked (now (words .entry)) (now (dir .entry)) (now (table .entry)) (now (heads .entry)) (at .since) (at .rows) k)
-        → Stepped (w .situation .p) (keysOf (now (table .entry)) (at .rows)) (at .number) (at .room) n (now (table .entry)) (now (buckets .entry))
+        → Stepped (Given (w .situation .p) (keysOf (now (table .entry)) (at .rows))) (at .number) (at .room) n (now (table .entry)) (now (buckets .entry))
         (Keyed (w .situation .p) (NewIn modes (w .situation .p) (RowsIn (w .situation .p) (keysOf (now (table .entry)) (at .since))) (RowsIn (w .situation .p) (keysOf (now (table .entry)) (at .rows))) k)) r (now (table .exit)) (now (buckets .exit)))
         × (r ≤ at .room → KeepsMarks (now (words .entry)) (now (dir .entry)) (now (table .exit)) (now (kept .exit)) (at .rows) r)
         × (r ≤ at .room → KeepsAnswers (now (words .entry)) (now (dir .entry)) (now (table .exit)) (now (answered .exit)) (at .rows)) ⌝ }

@@ -9,7 +9,7 @@ use terms::walk::wide;
 ghost use Prim.Native.Nat.{_≤_};
 ghost use Rattle.rows.specs.Rows.{keysOf};
 ghost use Rattle.steps.specs.Situation.{HeadAsked};
-ghost use Rattle.steps.specs.Steps.{Writable, Stepped};
+ghost use Rattle.steps.specs.Steps.{Given, Writable, Stepped};
 ghost use Rattle.steps.specs.Unifiers.{Room};
 ghost use Rattle.ends.specs.Ends.{WithHead, Scratch};
 ghost use Rattle.ends.specs.Keeping.{KeepsMarks};
@@ -37,7 +37,7 @@ pub fn end_clause<'a>(
         × KeepsAnswers (now words) (now dir) (now table) (now answered) (at .rows) × Room (now unifiers) ⌝ }
     ensures { λ r. ⌜ Scratch (now (answers .exit)) (now (found .exit))
         × ((w : HeadAsked (now (words .entry)) (now (dir .entry)) (now (table .entry)) (now (heads .entry)) (at .since) (at .rows) k)
-        → Stepped (w .situation .p) (keysOf (now (table .entry)) (at .rows)) (at .number) (at .room) n (now (table .entry)) (now (buckets .entry))
+        → Stepped (Given (w .situation .p) (keysOf (now (table .entry)) (at .rows))) (at .number) (at .room) n (now (table .entry)) (now (buckets .entry))
         (WithHead (w .situation .p) (keysOf (now (table .entry)) (at .since)) (keysOf (now (table .entry)) (at .rows)) k) r (now (table .exit)) (now (buckets .exit)))
         × (r ≤ at .room → KeepsMarks (now (words .entry)) (now (dir .entry)) (now (table .exit)) (now (kept .exit)) (at .rows) r)
         × (r ≤ at .room → KeepsAnswers (now (words .entry)) (now (dir .entry)) (now (table .exit)) (now (answered .exit)) (at .rows)) ⌝ }

@@ -17,7 +17,7 @@ use Rattle.rows.specs.Rows.{keysOf}
 use Rattle.table.specs.Rules.{Row}
 use Rattle.table.specs.Keys.{firstSolution}
 use Rattle.table.proofs.ShapeVariables.{within-few}
-use Rattle.steps.specs.Steps.{Writable, Grew, Stepped, Emitted, emitted-call, emitted-cont}
+use Rattle.steps.specs.Steps.{Given, Writable, Grew, Stepped, Emitted, emitted-call, emitted-cont}
 use Rattle.steps.proofs.Meetings.{setting-within}
 use Rattle.steps.proofs.ShapeLinks.{shape-below}
 use Rattle.steps.proofs.Stepping.{grew-none}
@@ -100,11 +100,11 @@ module _ {dir order table sets known found : List ℕ} {count since rows s newes
   module _ (round room n : ℕ) (buckets : List ℕ) where
     -- the new call rows have opened the body
     abbrev pub Opened : ℕ → List ℕ → List ℕ → Type 0
-    Opened n′ table′ buckets′ = Grew (a .p) (keysOf table rows) round room n table buckets (Emits (a .p) (a .k) 0 (OpenedBy (a .p) table since rows (a .k) s)) n′ table′ buckets′
+    Opened n′ table′ buckets′ = Grew (Given (a .p) (keysOf table rows)) round room n table buckets (Emits (a .p) (a .k) 0 (OpenedBy (a .p) table since rows (a .k) s)) n′ table′ buckets′
 
     -- the clause has no body
     pub opened-none : Writable table buckets n room → end ≤ first → Opened n table buckets
-    opened-none writable none = grew-none (a .p) (keysOf table rows) round room n table buckets _ writable (λ key (N, o, (row, e, is)). absurd (no-row e))
+    opened-none writable none = grew-none (Given (a .p) (keysOf table rows)) round room n table buckets _ writable (λ key (N, o, (row, e, is)). absurd (no-row e))
       where
         no-row : {N : ℕ} {row : Row ℕ} → Emitted (a .p) (a .k) 0 N row → ⊥
         no-row (emitted-call {A = A} hc hA r) = a .no-atom none A (subst (λ (d : Clause). Nth (d .body) 0 A) (nth-same hc (a .nth-clause)) hA)
@@ -121,8 +121,8 @@ module _ {dir order table sets known found : List ℕ} {count since rows s newes
           }
 
       pub shape-step : {n″ : ℕ} {table″ buckets″ : List ℕ}
-          → Stepped (a .p) (keysOf table′ rows) round room n′ table′ buckets′ (SolvedAt (a .p) (keysOf table′ since) (keysOf table′ rows) (a .k) known found s) n″ table″ buckets″
-          → Stepped (a .p) (keysOf table rows) round room n table buckets (ShapeGives (a .p) (keysOf table since) (keysOf table rows) (a .k) known found s) n″ table″ buckets″
+          → Stepped (Given (a .p) (keysOf table′ rows)) round room n′ table′ buckets′ (SolvedAt (a .p) (keysOf table′ since) (keysOf table′ rows) (a .k) known found s) n″ table″ buckets″
+          → Stepped (Given (a .p) (keysOf table rows)) round room n table buckets (ShapeGives (a .p) (keysOf table since) (keysOf table rows) (a .k) known found s) n″ table″ buckets″
       shape-step step =
           stepped-on (a .p) since rows round room n n′ _ table buckets table′ buckets′ _ _ (Emits (a .p) (a .k) 0 (OpenedBy (a .p) table since rows (a .k) s))
           (λ ks₀ ks. SolvedAt (a .p) ks₀ ks (a .k) known found s) (a .chains .new) behind g step

@@ -14,7 +14,7 @@ use Rattle.directory.specs.Layout.{clauseHead, clauseFirst, clauseVars, dirWord
 use Rattle.directory.specs.Directory.{predicateOf, ClauseAt}
 use Rattle.rows.specs.Rows.{keysOf}
 use Rattle.table.specs.Keys.{bodyIndex}
-use Rattle.steps.specs.Steps.{Grew}
+use Rattle.steps.specs.Steps.{Given, Grew}
 use Rattle.steps.specs.Situation.{Situation, BodyOf, HeadAsked, LastAsked}
 use Rattle.steps.specs.Since.{PredicateAsked}
 use Rattle.steps.specs.Heads.{HeadMark, Collected, Told}
@@ -148,7 +148,7 @@ module _ (words dir table heads : List ℕ) (since rows k : ℕ) (w : HeadAsked 
 -- the clause stands in a table that has grown
 module _ (words dir heads table₀ buckets₀ : List ℕ) (since rows round room n : ℕ) (l : rows ≤ n) where
   abbrev pub stands-on : (k : ℕ) (w : HeadAsked words dir table₀ heads since rows k) (Must : ℕ → Type 0) (n′ : ℕ) (table buckets : List ℕ)
-      → Grew (w .situation .p) (keysOf table₀ rows) round room n table₀ buckets₀ Must n′ table buckets → HeadAsked words dir table heads since rows k
+      → Grew (Given (w .situation .p) (keysOf table₀ rows)) round room n table₀ buckets₀ Must n′ table buckets → HeadAsked words dir table heads since rows k
   stands-on k w Must n′ table buckets g =
       record {
         situation =

@@ -18,7 +18,7 @@ use Rattle.directory.specs.Directory.{Link, predicateOf}
 use Rattle.rows.specs.Rows.{keysOf}
 use Rattle.table.specs.Rules.{Row}
 use Rattle.table.specs.Steps.{Opens, opens}
-use Rattle.steps.specs.Steps.{Writable, Grew, Stepped}
+use Rattle.steps.specs.Steps.{Given, Writable, Grew, Stepped}
 use Rattle.steps.specs.Heads.{SolvedOf, solved}
 use Rattle.steps.specs.Unifiers.{Notes}
 use Rattle.steps.proofs.Meetings.{setting-within, one-predicate}
@@ -76,7 +76,7 @@ module _ {words dir table₀ heads known found : List ℕ} {since old k known-ma
       pub from-all : 0 < marks → from ≡ 0
       pub upto : ℕ
       pub links : Link (shapes p) predicate upto link
-      pub grew : Grew p (keysOf table₀ old) round room n table₀ buckets₀ (Below upto) rows table buckets
+      pub grew : Grew (Given p (keysOf table₀ old)) round room n table₀ buckets₀ (Below upto) rows table buckets
 
     pub along-begins : {link : ℕ} → Writable table₀ buckets₀ n room → HeadKnown words p k c order start cells there first end count
         → (from ≤ since) × (0 < marks → from ≡ 0) → link ≡ getD dir (predicateShape + getD words start 0) 0 → Along link n table₀ buckets₀
@@ -87,7 +87,7 @@ module _ {words dir table₀ heads known found : List ℕ} {since old k known-ma
           from-all = all;
           upto = 0;
           links = first-link (a .head .situation .setting) hc (known-head .stands) g;
-          grew = grew-none p (keysOf table₀ old) round room n table₀ buckets₀ _ writable (λ key (s, S, hs, same, l, h). absurd (omega arith));
+          grew = grew-none (Given p (keysOf table₀ old)) round room n table₀ buckets₀ _ writable (λ key (s, S, hs, same, l, h). absurd (omega arith));
         }
 
     module _ {link rows : ℕ} {table buckets : List ℕ} (v : Along link rows table buckets) where
@@ -110,7 +110,7 @@ module _ {words dir table₀ heads known found : List ℕ} {since old k known-ma
         at-link key (s′, S′, hs′, same, l, g) =
             ⊎-elim (λ b. inl (s′, S′, hs′, same, b, g)) (λ e. inr (subst (λ (x : ℕ). Gives x key) e g)) (passed-before (a .head .situation .setting) (v .links) hs′ same l)
 
-        along-next : {r : ℕ} {table′ buckets′ : List ℕ} → Grew p (keysOf table₀ old) round room n table₀ buckets₀ (λ key. Below (v .upto) key ⊎ Gives s key) r table′ buckets′
+        along-next : {r : ℕ} {table′ buckets′ : List ℕ} → Grew (Given p (keysOf table₀ old)) round room n table₀ buckets₀ (λ key. Below (v .upto) key ⊎ Gives s key) r table′ buckets′
             → Along (getD dir (shapeNext + s) 0) r table′ buckets′
         along-next g =
             record {
@@ -119,7 +119,7 @@ module _ {words dir table₀ heads known found : List ℕ} {since old k known-ma
               from-all = v .from-all;
               upto = link;
               links = next-link (a .head .situation .setting) (v .links) h;
-              grew = grew-must p (keysOf table₀ old) round room n _ table₀ buckets₀ _ _ _ _ at-link g;
+              grew = grew-must (Given p (keysOf table₀ old)) round room n _ table₀ buckets₀ _ _ _ _ at-link g;
             }
 
         module _ (behind : old ≤ n) where
@@ -145,23 +145,23 @@ module _ {words dir table₀ heads known found : List ℕ} {since old k known-ma
 
           module _ {r : ℕ} {table′ buckets′ : List ℕ}
               (step : (o : OfShape words dir order table heads known found start cells there first end count since old s from known-marks marks)
-              → Stepped (o .at-head .head .situation .p) (keysOf table old) round room rows table buckets
+              → Stepped (Given (o .at-head .head .situation .p) (keysOf table old)) round room rows table buckets
               (ShapeGives (o .at-head .head .situation .p) (keysOf table since) (keysOf table old) (o .k) known found s) r table′ buckets′) where
-            both : Stepped p (keysOf table₀ old) round room n table₀ buckets₀ (λ key. Below (v .upto) key ⊎ Gives s key) r table′ buckets′
+            both : Stepped (Given p (keysOf table₀ old)) round room n table₀ buckets₀ (λ key. Below (v .upto) key ⊎ Gives s key) r table′ buckets′
             both =
                 stepped-on p since old round room n rows r table₀ buckets₀ table buckets table′ buckets′ (Below (v .upto)) (λ ks₀ ks. ShapeGives p ks₀ ks k known found s)
                 (a .head .situation .chains .new) behind (v .grew) (step along-shape)
 
-            pub along-full : {Must : ℕ → Type 0} → room < r → Stepped p (keysOf table₀ old) round room n table₀ buckets₀ Must r table′ buckets′
-            along-full past = inr (stepped-past p (keysOf table₀ old) round room n r table₀ buckets₀ table′ buckets′ _ both past)
+            pub along-full : {Must : ℕ → Type 0} → room < r → Stepped (Given p (keysOf table₀ old)) round room n table₀ buckets₀ Must r table′ buckets′
+            along-full past = inr (stepped-past (Given p (keysOf table₀ old)) round room n r table₀ buckets₀ table′ buckets′ _ both past)
 
             pub along-on : {next : ℕ} → next ≡ getD dir (shapeNext + s) 0 → r ≤ room → Along next r table′ buckets′
-            along-on e within = rw e (along-next (stepped-within p (keysOf table₀ old) round room n r table₀ buckets₀ table′ buckets′ _ both within))
+            along-on e within = rw e (along-next (stepped-within (Given p (keysOf table₀ old)) round room n r table₀ buckets₀ table′ buckets′ _ both within))
 
       -- at the last link every shape that unifies with the head was met
-      pub along-ends : link ≤ 0 → Stepped p (keysOf table₀ old) round room n table₀ buckets₀ (HeadGives p (keysOf table₀ since) (keysOf table₀ old) k known found) rows table buckets
+      pub along-ends : link ≤ 0 → Stepped (Given p (keysOf table₀ old)) round room n table₀ buckets₀ (HeadGives p (keysOf table₀ since) (keysOf table₀ old) k known found) rows table buckets
       along-ends last =
-          inl (grew-must p (keysOf table₀ old) round room n rows table₀ buckets₀ table buckets (Below (v .upto)) _
+          inl (grew-must (Given p (keysOf table₀ old)) round room n rows table₀ buckets₀ table buckets (Below (v .upto)) _
           (λ key. ⊎-elim (λ (row, (N, (s, M, new, o), goes), e). opened o (λ o′. inl (N, (M, new, o′), (row, goes-emitted goes, e))))
           (⊎-elim (λ (row, (s, g), e). given g (λ g′. inr (inl (row, g′, e)))) (λ (row, (s, g), e). given g (λ g′. inr (inr (row, g′, e)))))) (v .grew))
         where

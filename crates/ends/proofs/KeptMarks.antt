@@ -30,7 +30,7 @@ use Rattle.table.specs.NewRows.{NewReached}
 use Rattle.table.proofs.NewRows.{new-reached}
 use Rattle.table.proofs.Added.{behind-keeps}
 use Rattle.program.proofs.FoundLaws.{sound-same}
-use Rattle.steps.specs.Steps.{RowsIn, Given, Stepped}
+use Rattle.steps.specs.Steps.{RowsIn, Stepped}
 use Rattle.steps.specs.Situation.{Setting, ClauseOf, HeadAsked}
 use Rattle.steps.specs.Heads.{HeadMark, Collected, FoundOn}
 use Rattle.steps.proofs.Stepping.{keys-stay, stepped-within}
@@ -156,12 +156,12 @@ pub keeps-marks : {words dir : List ℕ} {p : Program} (table kept : List ℕ) (
 keeps-marks table kept n m s h p′ s′ = subst (λ (x : Program). KeepingMarks x table kept n (keysOf table m)) (sound-same _ (s .accepted) (s′ .accepted)) h
 
 -- the table of a step has the rows that are known
-pub step-keeps : {words dir : List ℕ} {p : Program} → Setting words dir p → (ks : List ℕ) (round room n n′ rows : ℕ) (table buckets table′ buckets′ kept : List ℕ) (Must : ℕ → Type 0) → rows ≤ n
-    → Stepped p ks round room n table buckets Must n′ table′ buckets′ → n′ ≤ room → KeepingMarks p table kept rows (keysOf table n) → KeepingMarks p table′ kept rows (keysOf table′ n′)
-step-keeps {p = p} setting ks round room n n′ rows table buckets table′ buckets′ kept Must l step within =
-    let g = stepped-within p ks round room n n′ table buckets table′ buckets′ Must step within in
+pub step-keeps : {words dir : List ℕ} {p : Program} → Setting words dir p → (May : ℕ → Type 0) (round room n n′ rows : ℕ) (table buckets table′ buckets′ kept : List ℕ) (Must : ℕ → Type 0) → rows ≤ n
+    → Stepped May round room n table buckets Must n′ table′ buckets′ → n′ ≤ room → KeepingMarks p table kept rows (keysOf table n) → KeepingMarks p table′ kept rows (keysOf table′ n′)
+step-keeps setting May round room n n′ rows table buckets table′ buckets′ kept Must l step within =
+    let g = stepped-within May round room n n′ table buckets table′ buckets′ Must step within in
     marks-stay setting table table′ kept rows (keysOf table n) (keysOf table′ n′) (λ m b. keys-stay table table′ n m (omega arith) (g .same-rows))
-    (behind-keeps (keysOf table n) (Given p ks) (keysOf table′ n′) (g .behind))
+    (behind-keeps (keysOf table n) May (keysOf table′ n′) (g .behind))
 
 module _ {words dir : List ℕ} {p : Program} (setting : Setting words dir p) (table : List ℕ) (rows k : ℕ) {c : Clause} (hc : Nth (p .clauses) k c) (kept kept′ : List ℕ) {ks : List ℕ}
     (s : KeepingMarks p table kept rows ks) (since : ℕ) (early : since ≤ knownOf keptSet kept k) (g : Gained (HeadMark p table since rows k (length (c .body))) (keptSet * k) keptSet kept kept′)

@@ -13,7 +13,7 @@ use Rattle.program.proofs.ShapeLaws.{nth-same}
 use Rattle.rows.specs.Rows.{keysOf}
 use Rattle.table.specs.Rules.{Row}
 use Rattle.table.proofs.Steps.{opens-apart}
-use Rattle.steps.specs.Steps.{Writable, Stepped}
+use Rattle.steps.specs.Steps.{Given, Writable, Stepped}
 use Rattle.steps.specs.Situation.{Meeting, Unifying}
 use Rattle.steps.specs.Heads.{SolvedOf, solved}
 use Rattle.steps.proofs.Bodies.{head-is-atom}
@@ -78,11 +78,11 @@ module _ {words dir order table heads known found : List ℕ} {start cells there
       }
 
   module _ (round room n : ℕ) (buckets : List ℕ) (writable : Writable table buckets n room) where
-    nothing : ((key : ℕ) → Gives key → ⊥) → Stepped p (keysOf table rows) round room n table buckets Gives n table buckets
-    nothing none = inl (grew-none p (keysOf table rows) round room n table buckets _ writable (λ key g. absurd (none key g)))
+    nothing : ((key : ℕ) → Gives key → ⊥) → Stepped (Given p (keysOf table rows)) round room n table buckets Gives n table buckets
+    nothing none = inl (grew-none (Given p (keysOf table rows)) round room n table buckets _ writable (λ key g. absurd (none key g)))
 
     -- the shape has no call row from row `from` on
-    pub shape-empty : getD heads s 0 ≤ from → Stepped p (keysOf table rows) round room n table buckets Gives n table buckets
+    pub shape-empty : getD heads s 0 ≤ from → Stepped (Given p (keysOf table rows)) round room n table buckets Gives n table buckets
     shape-empty l = nothing (λ key. ⊎-elim
         (λ (N, (M, new, o), given). none-late p table heads since rows since s M (w .at-head .head .situation .chains) shape-few (omega (arith, w .from-new)) new)
         (⊎-elim (λ (row, g, e). none-known g) (λ (row, g, e). none-found g)))
@@ -96,7 +96,7 @@ module _ {words dir order table heads known found : List ℕ} {start cells there
             none-late p table heads since rows 0 s C (w .at-head .head .situation .chains) shape-few (omega (arith, w .from-all some)) new
 
     -- the shape and the head are apart
-    pub shape-apart : Apart (w .S) (c .head) → Stepped p (keysOf table rows) round room n table buckets Gives n table buckets
+    pub shape-apart : Apart (w .S) (c .head) → Stepped (Given p (keysOf table rows)) round room n table buckets Gives n table buckets
     shape-apart apart = nothing (λ key. ⊎-elim
         (λ (N, (M, new, o), given). opens-apart p hc (w .nth-shape) apart o)
         (⊎-elim (λ (row, g, e). not-solved g) (λ (row, g, e). not-solved g)))

@@ -24,7 +24,7 @@ ghost use lib.ListN.{length, getD};
 ghost use Rattle.directory.specs.Layout.{clauseHead, clauseCells};
 ghost use Rattle.rows.specs.Rows.{keysOf};
 ghost use Rattle.rows.specs.MaskSet.{setWords};
-ghost use Rattle.steps.specs.Steps.{Writable, Stepped};
+ghost use Rattle.steps.specs.Steps.{Given, Writable, Stepped};
 ghost use Rattle.steps.specs.Unifiers.{Notes, HeadNotes};
 ghost use Rattle.ends.specs.AtHead.{ClauseAsked, HeadKnown, AtShape, OfShape, ShapeGives, AtHead, HeadGives};
 
@@ -104,7 +104,7 @@ fn at_shape(
     requires { ⌜ AtShape (now dir) (now order) (now table) (now sets) (now known) (now found) (head .count) (at .since) (at .rows) s newest (head .there) (head .first) (head .end) «known_marks» marks
         × Writable (now table) (now buckets) n (at .room) × (at .rows ≤ n) × (length (now solved) ≡ setWords) ⌝ }
     ensures { λ r. ⌜ ((a : AtShape (now (dir .entry)) (now (order .entry)) (now (table .entry)) (now (sets .entry)) (now (known .entry)) (now (found .entry)) (head .count) (at .since) (at .rows) s newest (head .there) (head .first) (head .end) «known_marks» marks)
-        → Stepped (a .p) (keysOf (now (table .entry)) (at .rows)) (at .number) (at .room) n (now (table .entry)) (now (buckets .entry))
+        → Stepped (Given (a .p) (keysOf (now (table .entry)) (at .rows))) (at .number) (at .room) n (now (table .entry)) (now (buckets .entry))
         (ShapeGives (a .p) (keysOf (now (table .entry)) (at .since)) (keysOf (now (table .entry)) (at .rows)) (a .k) (now (known .entry)) (now (found .entry)) s) r (now (table .exit)) (now (buckets .exit))) ⌝ }
 {
     let room = at.room;
@@ -174,7 +174,7 @@ fn of_shape<'a>(
         × Writable (now table) (now buckets) n (at .room) × (at .rows ≤ n) × (length (now solved) ≡ setWords)
         × Notes (now words) (now dir) (head .start) (head .cells) (now unifiers) ⌝ }
     ensures { λ r. ⌜ ((a : OfShape (now (words .entry)) (now (dir .entry)) (now (order .entry)) (now (table .entry)) (now (heads .entry)) (now (known .entry)) (now (found .entry)) (head .start) (head .cells) (head .there) (head .first) (head .end) (head .count) (at .since) (at .rows) s «from» «known_marks» marks)
-        → Stepped (a .at-head .head .situation .p) (keysOf (now (table .entry)) (at .rows)) (at .number) (at .room) n (now (table .entry)) (now (buckets .entry))
+        → Stepped (Given (a .at-head .head .situation .p) (keysOf (now (table .entry)) (at .rows))) (at .number) (at .room) n (now (table .entry)) (now (buckets .entry))
         (ShapeGives (a .at-head .head .situation .p) (keysOf (now (table .entry)) (at .since)) (keysOf (now (table .entry)) (at .rows)) (a .k) (now (known .entry)) (now (found .entry)) s) r (now (table .exit)) (now (buckets .exit)))
         × Notes (now (words .entry)) (now (dir .entry)) (head .start) (head .cells) (now (unifiers .exit)) ⌝ }
 {
@@ -227,7 +227,7 @@ pub fn at_head<'a>(
         × Writable (now table) (now buckets) n (at .room) × (at .rows ≤ n) × (length (now solved) ≡ setWords)
         × HeadNotes (now words) (now dir) k (now unifiers) ⌝ }
     ensures { λ r. ⌜ ((a : AtHead (now (words .entry)) (now (dir .entry)) (now (table .entry)) (now (heads .entry)) (now (known .entry)) (now (found .entry)) (at .since) (at .rows) k «known_marks» marks)
-        → Stepped (a .head .situation .p) (keysOf (now (table .entry)) (at .rows)) (at .number) (at .room) n (now (table .entry)) (now (buckets .entry))
+        → Stepped (Given (a .head .situation .p) (keysOf (now (table .entry)) (at .rows))) (at .number) (at .room) n (now (table .entry)) (now (buckets .entry))
         (HeadGives (a .head .situation .p) (keysOf (now (table .entry)) (at .since)) (keysOf (now (table .entry)) (at .rows)) k (now (known .entry)) (now (found .entry))) r (now (table .exit)) (now (buckets .exit)))
         × HeadNotes (now (words .entry)) (now (dir .entry)) k (now (unifiers .exit)) ⌝ }
 {

@@ -8,7 +8,6 @@ use mathlib.Core.List.{List}
 use lib.ListN.{length, getD, replicate}
 use Rattle.terms.specs.Mask.{Has}
 use Rattle.marks.specs.Modes.{modes, Together, KeptTo}
-use Rattle.program.specs.Program.{Program}
 use Rattle.program.specs.Limits.{rowSize}
 use Rattle.rows.specs.Rows.{slotAt, maskAt, beforeAt, keysOf}
 use Rattle.rows.proofs.Adding.{same-mask}
@@ -17,7 +16,7 @@ use Rattle.rows.proofs.MaskSets.{none-in-zeros}
 use Rattle.table.specs.Rules.{Reached}
 use Rattle.table.specs.RoundKeys.{Keyed}
 use Rattle.steps.specs.Situation.{Place}
-use Rattle.steps.specs.Steps.{RowsIn, Writable, Grew, Stepped, Emitted}
+use Rattle.steps.specs.Steps.{Given, RowsIn, Writable, Grew, Stepped, Emitted}
 use Rattle.steps.specs.Heads.{Collected}
 use Rattle.joining.specs.Joined.{JoinedWith, Had, Due, ContMarks, RowsOf, KeptOf, JoinAsked, AnswersThere, ContsAsked, ContsThere}
 use Rattle.steps.proofs.Stepping.{keys-stay, grew-none, grew-must, stepped-within}
@@ -39,27 +38,27 @@ pub had-all : (seen : List ℕ) (mask : ℕ) (answers : List ℕ) (x upto : ℕ)
 had-all seen mask answers x upto seen′ less had q h = ⊎-elim inl (λ m. inr (joined-fewer mask answers (x + 1) upto q (omega arith) m)) (had q h)
 
 -- rows that are there, by other names of their number and of the table
-pub grew-as : {p : Program} {keys : List ℕ} {round room n n′ n″ : ℕ} {table table′ table″ buckets buckets′ buckets″ : List ℕ} {Must : ℕ → Type 0} → n′ ≡ n″ → table′ ≡ table″ → buckets′ ≡ buckets″
-    → Grew p keys round room n table buckets Must n″ table″ buckets″ → Grew p keys round room n table buckets Must n′ table′ buckets′
+pub grew-as : {May : ℕ → Type 0} {round room n n′ n″ : ℕ} {table table′ table″ buckets buckets′ buckets″ : List ℕ} {Must : ℕ → Type 0} → n′ ≡ n″ → table′ ≡ table″ → buckets′ ≡ buckets″
+    → Grew May round room n table buckets Must n″ table″ buckets″ → Grew May round room n table buckets Must n′ table′ buckets′
 grew-as e t b g = rw e (rw t (rw b g))
 
 module _ {dir order table answers seen : List ℕ} {count rows j mask upto n : ℕ} (w : JoinAsked dir order table answers seen count rows j mask upto n) (buckets : List ℕ) (round room : ℕ) where
   -- the rows of the marks in the set, and of those that the first x answers make, are there
   abbrev pub AnswersGrew : ℕ → ℕ → List ℕ → List ℕ → Type 0
   AnswersGrew x n′ table′ buckets′ =
-      Grew (w .reaching .place .p) (keysOf table rows) round room n table buckets (RowsOf (w .reaching .place .p) (w .reaching .place .k) (w .reaching .place .i) (Had seen mask answers x)) n′ table′ buckets′
+      Grew (Given (w .reaching .place .p) (keysOf table rows)) round room n table buckets (RowsOf (w .reaching .place .p) (w .reaching .place .k) (w .reaching .place .i) (Had seen mask answers x)) n′ table′ buckets′
 
   -- no answer yet
   pub answers-begin : Writable table buckets n room → AnswersGrew 0 n table buckets
   answers-begin writable =
-      grew-none (w .reaching .place .p) (keysOf table rows) round room n table buckets _ writable
+      grew-none (Given (w .reaching .place .p) (keysOf table rows)) round room n table buckets _ writable
       (λ key (N, m, e). ⊎-elim (λ s. w .seen-there key (N, s, e)) (λ o. absurd (joined-none mask answers N o)) m)
 
   -- all answers
   pub answers-end : (x n′ : ℕ) (table′ buckets′ : List ℕ) → x ≡ upto → AnswersGrew x n′ table′ buckets′
-      → Grew (w .reaching .place .p) (keysOf table rows) round room n table buckets (RowsOf (w .reaching .place .p) (w .reaching .place .k) (w .reaching .place .i) (JoinedWith mask answers upto)) n′ table′ buckets′
+      → Grew (Given (w .reaching .place .p) (keysOf table rows)) round room n table buckets (RowsOf (w .reaching .place .p) (w .reaching .place .k) (w .reaching .place .i) (JoinedWith mask answers upto)) n′ table′ buckets′
   answers-end x n′ table′ buckets′ e =
-      grew-must (w .reaching .place .p) (keysOf table rows) round room n n′ table buckets table′ buckets′ _ _ (λ key (N, m, k). (N, inr (rw e m), k))
+      grew-must (Given (w .reaching .place .p) (keysOf table rows)) round room n n′ table buckets table′ buckets′ _ _ (λ key (N, m, k). (N, inr (rw e m), k))
 
   -- one answer more
   module _ (x N n′ : ℕ) (table′ buckets′ : List ℕ) (less : x < upto) (joined : Together mask (getD answers x 0) N) (g : AnswersGrew x n′ table′ buckets′) where
@@ -72,14 +71,14 @@ module _ {dir order table answers seen : List ℕ} {count rows j mask upto n : �
     -- its marks gave their rows before
     pub answer-had : Had seen mask answers x N → AnswersGrew (x + 1) n′ table′ buckets′
     answer-had had =
-        grew-must (w .reaching .place .p) (keysOf table rows) round room n n′ table buckets table′ buckets′ _ _
+        grew-must (Given (w .reaching .place .p) (keysOf table rows)) round room n n′ table buckets table′ buckets′ _ _
         (λ key (N′, m, k). (N′, ⊎-elim (λ o. o) (λ e. rw e had) (had-split N′ m), k)) g
 
     -- its marks give their rows now
     pub answer-emitted : (n″ : ℕ) (table″ buckets″ : List ℕ) → rows ≤ n
         → ((v : Place dir order count j) → Reached modes (v .p) (RowsIn (v .p) (keysOf table′ rows)) (v .k) (v .i) N
-        → Stepped (v .p) (keysOf table′ rows) round room n′ table′ buckets′ (Keyed (v .p) (Emitted (v .p) (v .k) (v .i) N)) n″ table″ buckets″)
-        → Stepped (w .reaching .place .p) (keysOf table rows) round room n table buckets
+        → Stepped (Given (v .p) (keysOf table′ rows)) round room n′ table′ buckets′ (Keyed (v .p) (Emitted (v .p) (v .k) (v .i) N)) n″ table″ buckets″)
+        → Stepped (Given (w .reaching .place .p) (keysOf table rows)) round room n table buckets
         (RowsOf (w .reaching .place .p) (w .reaching .place .k) (w .reaching .place .i) (Had seen mask answers (x + 1))) n″ table″ buckets″
     answer-emitted n″ table″ buckets″ enough emitted =
         let v = w .reaching .place in
@@ -90,7 +89,7 @@ module _ {dir order table answers seen : List ℕ} {count rows j mask upto n : �
         rows-more p (keysOf table rows) round room (v .k) (v .i) n n′ n″ table buckets table′ buckets′ table″ buckets″
         (Had seen mask answers x) (λ N′. N′ ≡ N) (Had seen mask answers (x + 1)) had-split g
         (rows-one p (keysOf table rows) round room (v .k) (v .i) n′ n″ table′ buckets′ table″ buckets″ N
-        (subst (λ (ks : List ℕ). Stepped p ks round room n′ table′ buckets′ (Keyed p (Emitted p (v .k) (v .i) N)) n″ table″ buckets″) same now))
+        (subst (λ (ks : List ℕ). Stepped (Given p ks) round room n′ table′ buckets′ (Keyed p (Emitted p (v .k) (v .i) N)) n″ table″ buckets″) same now))
 
 -- one answer more into the set
 pub answer-marked : (mask : ℕ) (answers : List ℕ) (there x N K : ℕ) (new : Bool) (found found′ found″ : List ℕ) → x < length answers → Together mask (getD answers x 0) N
@@ -121,7 +120,7 @@ pub record ContsWalk {dir order table answers : List ℕ} {count rows newest sin
     (buckets : List ℕ) (round room n link n′ : ℕ) (table′ buckets′ seen : List ℕ) : Type 0 where
   pub within : link ≤ rows
   pub own : (r : ℕ) → suc r ≡ link → slotAt table r ≡ w .slot
-  pub grew : Grew (w .reaching .place .p) (keysOf table rows) round room n table buckets
+  pub grew : Grew (Given (w .reaching .place .p) (keysOf table rows)) round room n table buckets
       (RowsOf (w .reaching .place .p) (w .reaching .place .k) (w .reaching .place .i) (ContMarks table answers (w .slot) rows since fresh all link)) n′ table′ buckets′
   pub had : (N : ℕ) → InSet seen N → ContMarks table answers (w .slot) rows since fresh all link N
 
@@ -133,7 +132,7 @@ module _ {dir order table answers : List ℕ} {count rows newest since fresh all
         within = w .chain .head .within;
         own = w .chain .head .own;
         grew =
-            grew-none (w .reaching .place .p) (keysOf table rows) round room n table buckets _ writable
+            grew-none (Given (w .reaching .place .p) (keysOf table rows)) round room n table buckets _ writable
             (λ key (N, m, _). absurd (marks-begin table answers (w .slot) rows newest since fresh all (w .chain) N m));
         had = λ N h. absurd (none-in-zeros setWords N (rw empty at h));
       }
@@ -175,8 +174,8 @@ module _ {dir order table answers : List ℕ} {count rows newest since fresh all
 
     module _ (n″ : ℕ) (table″ buckets″ : List ℕ)
         (emitted : (v : JoinAsked dir order table′ answers seen count rows j mask upto n′)
-        → Stepped (v .reaching .place .p) (keysOf table′ rows) round room n′ table′ buckets′ (RowsOf (v .reaching .place .p) (v .reaching .place .k) (v .reaching .place .i) (JoinedWith mask answers upto)) n″ table″ buckets″) where
-      pub row-emitted : Stepped (w .reaching .place .p) (keysOf table rows) round room n table buckets
+        → Stepped (Given (v .reaching .place .p) (keysOf table′ rows)) round room n′ table′ buckets′ (RowsOf (v .reaching .place .p) (v .reaching .place .k) (v .reaching .place .i) (JoinedWith mask answers upto)) n″ table″ buckets″) where
+      pub row-emitted : Stepped (Given (w .reaching .place .p) (keysOf table rows)) round room n table buckets
           (RowsOf (w .reaching .place .p) (w .reaching .place .k) (w .reaching .place .i) (ContMarks table answers (w .slot) rows since fresh all (beforeAt table (link - 1)))) n″ table″ buckets″
       unfolding row-asked
       row-emitted =
@@ -184,12 +183,12 @@ module _ {dir order table answers : List ℕ} {count rows newest since fresh all
           rows-more (v .p) (keysOf table rows) round room (v .k) (v .i) n n′ n″ table buckets table′ buckets′ table″ buckets″
           (ContMarks table answers (w .slot) rows since fresh all link) (JoinedWith mask answers upto) (ContMarks table answers (w .slot) rows since fresh all (beforeAt table (link - 1)))
           split (walk .grew)
-          (subst (λ (ks : List ℕ). Stepped (v .p) ks round room n′ table′ buckets′ (RowsOf (v .p) (v .k) (v .i) (JoinedWith mask answers upto)) n″ table″ buckets″) same (emitted row-asked))
+          (subst (λ (ks : List ℕ). Stepped (Given (v .p) ks) round room n′ table′ buckets′ (RowsOf (v .p) (v .k) (v .i) (JoinedWith mask answers upto)) n″ table″ buckets″) same (emitted row-asked))
 
       module _ (fits : n″ ≤ room) where
-        grown : Grew (w .reaching .place .p) (keysOf table rows) round room n table buckets
+        grown : Grew (Given (w .reaching .place .p) (keysOf table rows)) round room n table buckets
             (RowsOf (w .reaching .place .p) (w .reaching .place .k) (w .reaching .place .i) (ContMarks table answers (w .slot) rows since fresh all (beforeAt table (link - 1)))) n″ table″ buckets″
-        grown = stepped-within (w .reaching .place .p) (keysOf table rows) round room n n″ table buckets table″ buckets″ _ row-emitted fits
+        grown = stepped-within (Given (w .reaching .place .p) (keysOf table rows)) round room n n″ table buckets table″ buckets″ _ row-emitted fits
 
         next-was : beforeAt table″ (link - 1) ≡ beforeAt table (link - 1)
         next-was = grown .same-rows (rowSize * (link - 1) + 3) (omega (arith, walk .within))

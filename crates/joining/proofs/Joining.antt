@@ -15,7 +15,7 @@ use Rattle.program.specs.Program.{Program}
 use Rattle.rows.specs.Rows.{slotAt, maskAt, beforeAt}
 use Rattle.rows.specs.Chains.{Latest}
 use Rattle.table.specs.RoundKeys.{Keyed}
-use Rattle.steps.specs.Steps.{Grew, Stepped, Emitted}
+use Rattle.steps.specs.Steps.{Given, Grew, Stepped, Emitted}
 use Rattle.joining.specs.Joined.{JoinedWith, Due, ContMarks, RowsOf, KeptOf, SlotChain}
 use Rattle.steps.proofs.Stepping.{stepped-then, stepped-must}
 
@@ -92,17 +92,17 @@ module _ (table answers : List ℕ) (slot rows newest since fresh all : ℕ) (ch
 module _ (p : Program) (ks : List ℕ) (round room k i : ℕ) where
   pub rows-more : (n n′ n″ : ℕ) (table buckets table′ buckets′ table″ buckets″ : List ℕ) (Some Others Both : ℕ → Type 0)
       → ((N : ℕ) → Both N → Some N ⊎ Others N)
-      → Grew p ks round room n table buckets (RowsOf p k i Some) n′ table′ buckets′ → Stepped p ks round room n′ table′ buckets′ (RowsOf p k i Others) n″ table″ buckets″
-      → Stepped p ks round room n table buckets (RowsOf p k i Both) n″ table″ buckets″
+      → Grew (Given p ks) round room n table buckets (RowsOf p k i Some) n′ table′ buckets′ → Stepped (Given p ks) round room n′ table′ buckets′ (RowsOf p k i Others) n″ table″ buckets″
+      → Stepped (Given p ks) round room n table buckets (RowsOf p k i Both) n″ table″ buckets″
   rows-more n n′ n″ table buckets table′ buckets′ table″ buckets″ Some Others Both split g s =
-      stepped-must p ks round room n n″ table buckets table″ buckets″ (λ key. RowsOf p k i Some key ⊎ RowsOf p k i Others key) (RowsOf p k i Both)
+      stepped-must (Given p ks) round room n n″ table buckets table″ buckets″ (λ key. RowsOf p k i Some key ⊎ RowsOf p k i Others key) (RowsOf p k i Both)
       (λ key (N, m, e). ⊎-elim (λ a. inl (N, a, e)) (λ b. inr (N, b, e)) (split N m))
-      (stepped-then p ks round room n n′ n″ table buckets table′ buckets′ table″ buckets″ (RowsOf p k i Some) (RowsOf p k i Others) g s)
+      (stepped-then (Given p ks) round room n n′ n″ table buckets table′ buckets′ table″ buckets″ (RowsOf p k i Some) (RowsOf p k i Others) g s)
 
-  pub rows-one : (n n′ : ℕ) (table buckets table′ buckets′ : List ℕ) (N : ℕ) → Stepped p ks round room n table buckets (Keyed p (Emitted p k i N)) n′ table′ buckets′
-      → Stepped p ks round room n table buckets (RowsOf p k i (λ N′. N′ ≡ N)) n′ table′ buckets′
+  pub rows-one : (n n′ : ℕ) (table buckets table′ buckets′ : List ℕ) (N : ℕ) → Stepped (Given p ks) round room n table buckets (Keyed p (Emitted p k i N)) n′ table′ buckets′
+      → Stepped (Given p ks) round room n table buckets (RowsOf p k i (λ N′. N′ ≡ N)) n′ table′ buckets′
   rows-one n n′ table buckets table′ buckets′ N =
-      stepped-must p ks round room n n′ table buckets table′ buckets′ (Keyed p (Emitted p k i N)) (RowsOf p k i (λ N′. N′ ≡ N)) (λ key (N′, e, m). rw e at m)
+      stepped-must (Given p ks) round room n n′ table buckets table′ buckets′ (Keyed p (Emitted p k i N)) (RowsOf p k i (λ N′. N′ ≡ N)) (λ key (N′, e, m). rw e at m)
 
 -- marks kept to the head's variables, one after another
 pub kept-split : (there : ℕ) (Some Others Both : ℕ → Type 0) → ((N : ℕ) → Both N ↔ (Some N ⊎ Others N)) → (q : ℕ) → KeptOf there Both q ↔ (KeptOf there Some q ⊎ KeptOf there Others q)

@@ -157,10 +157,10 @@ pub answers-later : (p : Program) (table answered : List ℕ) (n n′ : ℕ) →
 answers-later p table answered n n′ b s = record { sets = keeping-later answerSet (KeptAtom p) (λ j atom. atom .0) b (s .sets) }
 
 -- the table of a step has the rows that are known
-pub step-keeps-answers : (p : Program) (ks : List ℕ) (round room n n′ rows : ℕ) (table buckets table′ buckets′ answered : List ℕ) (Must : ℕ → Type 0) → rows ≤ n
-    → Stepped p ks round room n table buckets Must n′ table′ buckets′ → n′ ≤ room → KeepingAnswers p table answered rows → KeepingAnswers p table′ answered rows
-step-keeps-answers p ks round room n n′ rows table buckets table′ buckets′ answered Must l step within =
-    let g = stepped-within p ks round room n n′ table buckets table′ buckets′ Must step within in
+pub step-keeps-answers : (p : Program) (May : ℕ → Type 0) (round room n n′ rows : ℕ) (table buckets table′ buckets′ answered : List ℕ) (Must : ℕ → Type 0) → rows ≤ n
+    → Stepped May round room n table buckets Must n′ table′ buckets′ → n′ ≤ room → KeepingAnswers p table answered rows → KeepingAnswers p table′ answered rows
+step-keeps-answers p May round room n n′ rows table buckets table′ buckets′ answered Must l step within =
+    let g = stepped-within May round room n n′ table buckets table′ buckets′ Must step within in
     answers-stay p table table′ answered rows (λ r h. (g .same-rows (rowSize * r + 1) (omega arith), g .same-rows (rowSize * r + 2) (omega arith)))
 
 -- with all words 0 nothing is kept, of no rows

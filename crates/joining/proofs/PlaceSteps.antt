@@ -24,7 +24,7 @@ use Rattle.table.specs.Keys.{firstCont, bodyIndex}
 use Rattle.table.proofs.Keys.{index-same}
 use Rattle.table.proofs.NewRows.{new-reached}
 use Rattle.steps.specs.Situation.{Setting, Situation, BodyOf, Place, AtomRun, MiddleAsked, LastAsked}
-use Rattle.steps.specs.Steps.{RowsIn, Writable, Stepped}
+use Rattle.steps.specs.Steps.{Given, RowsIn, Writable, Stepped}
 use Rattle.steps.specs.Heads.{HeadMark, Collected}
 use Rattle.joining.specs.Joined.{ContMarks, RowsOf, KeptOf, AnswersThere, ContsAsked, ContsThere, Answered, BodyAsked}
 use Rattle.steps.proofs.Meetings.{setting-within}
@@ -135,17 +135,17 @@ module _ {words dir table heads : List ℕ} {since rows j : ℕ} (w : Situation 
     abbrev NextKeys : ℕ → Type 0
     NextKeys = Keyed (w .p) (NewGoesOn modes (w .p) (RowsIn (w .p) (keysOf table since)) (RowsIn (w .p) (keysOf table rows)) (b .k) (suc (b .i)))
 
-    pub no-next-rows : getD heads (firstCont + j) 0 ≡ 0 → Stepped (w .p) (keysOf table rows) round room n table buckets NextKeys n table buckets
-    no-next-rows none = stepped-none (w .p) (keysOf table rows) round room n table buckets NextKeys writable (λ key (row, (N, made, goes), e). absurd (no-conts w b none N made))
+    pub no-next-rows : getD heads (firstCont + j) 0 ≡ 0 → Stepped (Given (w .p) (keysOf table rows)) round room n table buckets NextKeys n table buckets
+    no-next-rows none = stepped-none (Given (w .p) (keysOf table rows)) round room n table buckets NextKeys writable (λ key (row, (N, made, goes), e). absurd (no-conts w b none N made))
 
     module _ {newest : ℕ} (newest-is : newest ≡ getD heads (firstCont + j) 0) (answers : List ℕ) (fresh all : ℕ) (there : AnswersThere answers fresh all)
         (a : Answered (w .p) table (b .A) since rows newest answers fresh all) where
       pub all-answered : Answered (w .p) table (b .A) since rows (getD heads (firstCont + j) 0) answers fresh all
       all-answered = rw newest-is at a
 
-      pub no-answers : all ≡ 0 → Stepped (w .p) (keysOf table rows) round room n table buckets NextKeys n table buckets
+      pub no-answers : all ≡ 0 → Stepped (Given (w .p) (keysOf table rows)) round room n table buckets NextKeys n table buckets
       no-answers none =
-          stepped-none (w .p) (keysOf table rows) round room n table buckets NextKeys writable
+          stepped-none (Given (w .p) (keysOf table rows)) round room n table buckets NextKeys writable
           (λ key (row, (N, made, goes), e). absurd (no-answer answers fresh all there all-answered none N made))
 
       module _ (m : MiddleAsked words dir table heads since rows j) (order : List ℕ) (count : ℕ) (o : InOrder (m .next) (number (m .next)) order count) where
@@ -166,9 +166,9 @@ module _ {words dir table heads : List ℕ} {since rows j : ℕ} (w : Situation 
 
         pub next-rows : {n′ : ℕ} {table′ buckets′ : List ℕ}
             → ((x : ContsAsked dir order table answers count rows newest since fresh all (j + 1))
-            → Stepped (x .reaching .place .p) (keysOf table rows) round room n table buckets
+            → Stepped (Given (x .reaching .place .p) (keysOf table rows)) round room n table buckets
             (RowsOf (x .reaching .place .p) (x .reaching .place .k) (x .reaching .place .i) (ContMarks table answers (x .slot) rows since fresh all 0)) n′ table′ buckets′)
-            → Stepped (w .p) (keysOf table rows) round room n table buckets NextKeys n′ table′ buckets′
+            → Stepped (Given (w .p) (keysOf table rows)) round room n table buckets NextKeys n′ table′ buckets′
         next-rows {n′} {table′} {buckets′} step =
-            stepped-must (w .p) (keysOf table rows) round room n n′ table buckets table′ buckets′ _ NextKeys
+            stepped-must (Given (w .p) (keysOf table rows)) round room n n′ table buckets table′ buckets′ _ NextKeys
             (λ key (row, (N, made, goes), e). (N, conts-reach w b answers fresh all all-answered N .1 made, (row, goes-emitted goes, e))) (step conts-asked)

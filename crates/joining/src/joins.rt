@@ -23,7 +23,7 @@ ghost use Rattle.rows.specs.MaskSet.{setWords, InSet};
 ghost use Rattle.table.specs.NewRows.{NewGoesOn};
 ghost use Rattle.table.specs.RoundKeys.{Keyed};
 ghost use Rattle.steps.specs.Situation.{Situation, BodyOf, MiddleAsked, LastAsked};
-ghost use Rattle.steps.specs.Steps.{RowsIn, Writable, Stepped};
+ghost use Rattle.steps.specs.Steps.{Given, RowsIn, Writable, Stepped};
 ghost use Rattle.steps.specs.Heads.{HeadMark, Collected, Told};
 ghost use Rattle.joining.specs.Joined.{JoinedWith, Had, ContMarks, RowsOf, KeptOf, JoinAsked, ContsAsked, ContsThere};
 ghost use Rattle.joining.specs.KeptAnswers.{KeepsAnswers};
@@ -47,7 +47,7 @@ fn emit_joined(
         × Writable (now table) (now buckets) n (at .room) × (at .rows ≤ n) × (length (now seen) ≡ setWords) ⌝ }
     ensures { λ r. ⌜ ((N : ℕ) → InSet (now (seen .exit)) N → Had (now (seen .entry)) mask (now (answers .entry)) upto N)
         × ((w : JoinAsked (now (dir .entry)) (now (order .entry)) (now (table .entry)) (now (answers .entry)) (now (seen .entry)) count (at .rows) j mask upto n)
-        → Stepped (w .reaching .place .p) (keysOf (now (table .entry)) (at .rows)) (at .number) (at .room) n (now (table .entry)) (now (buckets .entry))
+        → Stepped (Given (w .reaching .place .p) (keysOf (now (table .entry)) (at .rows))) (at .number) (at .room) n (now (table .entry)) (now (buckets .entry))
         (RowsOf (w .reaching .place .p) (w .reaching .place .k) (w .reaching .place .i) (JoinedWith mask (now (answers .entry)) upto)) r (now (table .exit)) (now (buckets .exit))) ⌝ }
 {
     let room = at.room;
@@ -85,7 +85,7 @@ fn emit_conts(
     requires { ⌜ ContsAsked (now dir) (now order) (now table) (now answers) count (at .rows) newest (at .since) fresh all j
         × Writable (now table) (now buckets) n (at .room) × (at .rows ≤ n) × (now seen ≡ replicate setWords 0) ⌝ }
     ensures { λ r. ⌜ ((w : ContsAsked (now (dir .entry)) (now (order .entry)) (now (table .entry)) (now (answers .entry)) count (at .rows) newest (at .since) fresh all j)
-        → Stepped (w .reaching .place .p) (keysOf (now (table .entry)) (at .rows)) (at .number) (at .room) n (now (table .entry)) (now (buckets .entry))
+        → Stepped (Given (w .reaching .place .p) (keysOf (now (table .entry)) (at .rows))) (at .number) (at .room) n (now (table .entry)) (now (buckets .entry))
         (RowsOf (w .reaching .place .p) (w .reaching .place .k) (w .reaching .place .i)
         (ContMarks (now (table .entry)) (now (answers .entry)) (w .slot) (at .rows) (at .since) fresh all 0)) r (now (table .exit)) (now (buckets .exit))) ⌝ }
 {
@@ -141,7 +141,7 @@ pub fn middle_place<'a>(
     ensures { λ r. ⌜ (now (seen .exit) ≡ replicate setWords 0)
         × KeepsAnswers (now (words .entry)) (now (dir .entry)) (now (table .entry)) (now (answered .exit)) (at .rows)
         × ((w : Situation (now (words .entry)) (now (dir .entry)) (now (table .entry)) (now (heads .entry)) (at .since) (at .rows)) (b : BodyOf (w .p) j)
-        → Stepped (w .p) (keysOf (now (table .entry)) (at .rows)) (at .number) (at .room) n (now (table .entry)) (now (buckets .entry))
+        → Stepped (Given (w .p) (keysOf (now (table .entry)) (at .rows))) (at .number) (at .room) n (now (table .entry)) (now (buckets .entry))
         (Keyed (w .p) (NewGoesOn modes (w .p) (RowsIn (w .p) (keysOf (now (table .entry)) (at .since))) (RowsIn (w .p) (keysOf (now (table .entry)) (at .rows))) (b .k) (suc (b .i)))) r (now (table .exit)) (now (buckets .exit))) ⌝ }
 {
     let since = at.since;

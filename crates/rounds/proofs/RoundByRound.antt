@@ -122,7 +122,7 @@ module _ (words dir : List ℕ) (p : Program) (setting : Setting words dir p) wh
         }
 
     -- "the result exceeds the room"
-    overfull-more : (room n n′ : ℕ) (table : List ℕ) → keysOf table n ≡ ks → Overfull p ks room n table n′ → MoreThan p room
+    overfull-more : (room n n′ : ℕ) (table : List ℕ) → keysOf table n ≡ ks → Overfull (Given p ks) room n table n′ → MoreThan p room
     overfull-more room n n′ table e o =
         let f : Full ks (Given p ks) room (o .kept) = subst (λ (l : List ℕ). Full l (Given p ks) room (o .kept)) e (o .full) in
         full-more words p (setting .accepted) k kept
@@ -233,11 +233,11 @@ module _ (words dir : List ℕ) (p : Program) (setting : Setting words dir p) wh
               };
         }
 
-    pub rounds-overfull : (n′ : ℕ) → Overfull p (keysOf table′ rows) room rows table′ n′ → MoreThan p room
+    pub rounds-overfull : (n′ : ℕ) → Overfull (Given p (keysOf table′ rows)) room rows table′ n′ → MoreThan p room
     rounds-overfull n′ o = overfull-more (s .k) (keysOf table′ rows) round-kept room rows n′ table′ refl o
 
     module _ (next : ℕ) (table″ buckets″ : List ℕ)
-        (g : Grew p (keysOf table′ rows) number room rows table′ buckets (Keyed p (NewGives modes p (RowsIn p (keysOf table′ since)) (RowsIn p (keysOf table′ rows)))) next table″ buckets″) where
+        (g : Grew (Given p (keysOf table′ rows)) number room rows table′ buckets (Keyed p (NewGives modes p (RowsIn p (keysOf table′ since)) (RowsIn p (keysOf table′ rows)))) next table″ buckets″) where
       plus : Plus (keysOf table′ rows) (Looked p (s .k)) (keysOf table″ next)
       plus = grown-plus (s .k) (keysOf table′ rows) round-kept (keysOf table′ since) (keysOf table″ next) earlier′ (g .behind) (g .all)
 

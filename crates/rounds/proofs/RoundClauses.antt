@@ -16,7 +16,7 @@ use Rattle.table.specs.NewRows.{New, NewIn, NewGives}
 use Rattle.table.specs.RoundKeys.{Keyed}
 use Rattle.table.proofs.Looking.{by-clauses}
 use Rattle.program.proofs.FoundLaws.{sound-same}
-use Rattle.steps.specs.Steps.{RowsIn, Writable, Grew, Stepped}
+use Rattle.steps.specs.Steps.{Given, RowsIn, Writable, Grew, Stepped}
 use Rattle.steps.specs.Situation.{Situation, HeadAsked}
 use Rattle.concerns.specs.Active.{Concerns}
 use Rattle.rounds.specs.Rounds.{LookAsked}
@@ -37,11 +37,11 @@ module _ (words dir heads table₀ buckets₀ : List ℕ) (since rows round room
   abbrev Looked : ℕ → ℕ → Type 0
   Looked k = Keyed (w .p) (NewIn modes (w .p) (RowsIn (w .p) (keysOf table₀ since)) (RowsIn (w .p) (keysOf table₀ rows)) k)
 
-  pub clauses-begin : Writable table₀ buckets₀ rows room → Grew (w .p) (keysOf table₀ rows) round room rows table₀ buckets₀ (Below Looked 0) rows table₀ buckets₀
-  clauses-begin writable = grew-none (w .p) (keysOf table₀ rows) round room rows table₀ buckets₀ _ writable (λ key (i, b, h). absurd (omega arith))
+  pub clauses-begin : Writable table₀ buckets₀ rows room → Grew (Given (w .p) (keysOf table₀ rows)) round room rows table₀ buckets₀ (Below Looked 0) rows table₀ buckets₀
+  clauses-begin writable = grew-none (Given (w .p) (keysOf table₀ rows)) round room rows table₀ buckets₀ _ writable (λ key (i, b, h). absurd (omega arith))
 
   module _ (k n′ : ℕ) (table buckets : List ℕ) (b : k < length (w .p .clauses))
-      (g : Grew (w .p) (keysOf table₀ rows) round room rows table₀ buckets₀ (Below Looked k) n′ table buckets) where
+      (g : Grew (Given (w .p) (keysOf table₀ rows)) round room rows table₀ buckets₀ (Below Looked k) n′ table buckets) where
     pub clause-there : (c : Clause) × Nth (w .p .clauses) k c
     clause-there = below-nth (w .p .clauses) k b
 
@@ -52,15 +52,15 @@ module _ (words dir heads table₀ buckets₀ : List ℕ) (since rows round room
 
     pub clauses-next : (n″ : ℕ) (table′ buckets′ : List ℕ)
         → ((v : HeadAsked words dir table heads since rows k)
-        → Stepped (v .situation .p) (keysOf table rows) round room n′ table buckets
+        → Stepped (Given (v .situation .p) (keysOf table rows)) round room n′ table buckets
         (Keyed (v .situation .p) (NewIn modes (v .situation .p) (RowsIn (v .situation .p) (keysOf table since)) (RowsIn (v .situation .p) (keysOf table rows)) k)) n″ table′ buckets′)
-        → Stepped (w .p) (keysOf table₀ rows) round room rows table₀ buckets₀ (Below Looked (k + 1)) n″ table′ buckets′
+        → Stepped (Given (w .p) (keysOf table₀ rows)) round room rows table₀ buckets₀ (Below Looked (k + 1)) n″ table′ buckets′
     clauses-next n″ table′ buckets′ step =
         let e = keys-stay table₀ table rows rows (omega arith) (g .same-rows) in
         let f = keys-stay table₀ table rows since (w .chains .new) (g .same-rows) in
-        stepped-must (w .p) (keysOf table₀ rows) round room rows n″ table₀ buckets₀ table′ buckets′ _ _
+        stepped-must (Given (w .p) (keysOf table₀ rows)) round room rows n″ table₀ buckets₀ table′ buckets′ _ _
         (λ key. below-one-more Looked k (k + 1) key (omega arith))
-        (stepped-then (w .p) (keysOf table₀ rows) round room rows n′ n″ table₀ buckets₀ table buckets table′ buckets′ _ _ g
+        (stepped-then (Given (w .p) (keysOf table₀ rows)) round room rows n′ n″ table₀ buckets₀ table buckets table′ buckets′ _ _ g
         (rw (e, f) at (step clause-asked)))
 
     -- clause k, where the new rows that concern it set its bit
@@ -77,9 +77,9 @@ module _ (words dir heads table₀ buckets₀ : List ℕ) (since rows round room
         }
 
   pub clauses-end : (k n′ : ℕ) (table buckets : List ℕ) → length (w .p .clauses) ≤ k
-      → Grew (w .p) (keysOf table₀ rows) round room rows table₀ buckets₀ (Below Looked k) n′ table buckets
-      → Stepped (w .p) (keysOf table₀ rows) round room rows table₀ buckets₀ (Keyed (w .p) (NewGives modes (w .p) (RowsIn (w .p) (keysOf table₀ since)) (RowsIn (w .p) (keysOf table₀ rows)))) n′ table buckets
+      → Grew (Given (w .p) (keysOf table₀ rows)) round room rows table₀ buckets₀ (Below Looked k) n′ table buckets
+      → Stepped (Given (w .p) (keysOf table₀ rows)) round room rows table₀ buckets₀ (Keyed (w .p) (NewGives modes (w .p) (RowsIn (w .p) (keysOf table₀ since)) (RowsIn (w .p) (keysOf table₀ rows)))) n′ table buckets
   clauses-end k n′ table buckets b g =
-      stepped-must (w .p) (keysOf table₀ rows) round room rows n′ table₀ buckets₀ table buckets _ _
+      stepped-must (Given (w .p) (keysOf table₀ rows)) round room rows n′ table₀ buckets₀ table buckets _ _
       (λ key h. let (i, d, s) = by-clauses (w .p) (RowsIn (w .p) (keysOf table₀ since)) (RowsIn (w .p) (keysOf table₀ rows)) key .1 h in (i, omega arith, s))
       (inl g)

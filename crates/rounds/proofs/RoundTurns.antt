@@ -11,7 +11,7 @@ use Rattle.rows.specs.Rows.{keysOf}
 use Rattle.rows.specs.Linked.{Linked}
 use Rattle.table.specs.NewRows.{NewGives}
 use Rattle.table.specs.RoundKeys.{Keyed}
-use Rattle.steps.specs.Steps.{RowsIn, Writable, Grew, Stepped}
+use Rattle.steps.specs.Steps.{Given, RowsIn, Writable, Grew, Stepped}
 use Rattle.steps.specs.Situation.{Setting, Situation}
 use Rattle.joining.specs.KeptAnswers.{KeepsAnswers}
 use Rattle.ends.specs.Keeping.{KeepsMarks}
@@ -50,18 +50,18 @@ module _ {words dir table buckets heads table′ heads′ : List ℕ} {room sinc
   -- the round that looks at them
   module _ {next : ℕ} {table″ buckets″ : List ℕ}
       (step : (w : Situation words dir table′ heads′ since rows)
-      → Stepped (w .p) (keysOf table′ rows) number room rows table′ buckets
+      → Stepped (Given (w .p) (keysOf table′ rows)) number room rows table′ buckets
       (Keyed (w .p) (NewGives modes (w .p) (RowsIn (w .p) (keysOf table′ since)) (RowsIn (w .p) (keysOf table′ rows)))) next table″ buckets″) where
     -- past the room
     pub turn-over : room < next → (p : Program) → Setting words dir p → Finished p room next table″
     turn-over past p st =
-        let o = stepped-past p (keysOf table′ rows) number room rows next table′ buckets table″ buckets″ _ (step (turn-situation p st)) past in
+        let o = stepped-past (Given p (keysOf table′ rows)) number room rows next table′ buckets table″ buckets″ _ (step (turn-situation p st)) past in
         inr (o .0 .over, rounds-overfull words dir p st table buckets heads room since rows number (t .each p st) table′ heads′ (t .linked) (t .same-length) (t .same-heads) next (o .0))
 
     module _ (within : next ≤ room) where
       turn-grew : (p : Program) → (st : Setting words dir p)
-          → Grew p (keysOf table′ rows) number room rows table′ buckets (Keyed p (NewGives modes p (RowsIn p (keysOf table′ since)) (RowsIn p (keysOf table′ rows)))) next table″ buckets″
-      turn-grew p st = stepped-within p (keysOf table′ rows) number room rows next table′ buckets table″ buckets″ _ (step (turn-situation p st)) within
+          → Grew (Given p (keysOf table′ rows)) number room rows table′ buckets (Keyed p (NewGives modes p (RowsIn p (keysOf table′ since)) (RowsIn p (keysOf table′ rows)))) next table″ buckets″
+      turn-grew p st = stepped-within (Given p (keysOf table′ rows)) number room rows next table′ buckets table″ buckets″ _ (step (turn-situation p st)) within
 
       -- no row more: the last round
       pub turn-last : next ≡ rows → (p : Program) → Setting words dir p → Finished p room rows table″

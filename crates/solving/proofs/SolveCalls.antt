@@ -40,14 +40,14 @@ pub record SolvedRow (table₀ : List ℕ) (slot mask : ℕ) (table : List ℕ) 
 -- the walk has come to the link: rows were added behind the first n, those of the masks in the set are there, and what was put in is of the shape's variables
 pub record Going {table₀ solved₀ : List ℕ} {since old newest slot mask n : ℕ} (a : CallsAsked table₀ solved₀ since old newest slot mask n) (round room : ℕ) (buckets₀ : List ℕ)
     (link rows : ℕ) (table buckets solved : List ℕ) : Type 0 where
-  pub grew : Grew (a .to .p) (keysOf table₀ old) round room n table₀ buckets₀ (SetKeys (a .to .S) slot solved) rows table buckets
+  pub grew : Grew (Given (a .to .p) (keysOf table₀ old)) round room n table₀ buckets₀ (SetKeys (a .to .S) slot solved) rows table buckets
   pub walked : Walked (slotAt table₀) (a .to .s) old link (SolvedRow table₀ slot mask table rows)
   pub put : PutFor (a .to .S) solved₀ solved
 
 -- the call row at the link has its solution row, of mask R, and no row is lost
 pub record Turned {table₀ solved₀ : List ℕ} {since old newest slot mask n : ℕ} (a : CallsAsked table₀ solved₀ since old newest slot mask n) (round room : ℕ) (buckets₀ : List ℕ)
     (rows : ℕ) (table : List ℕ) (R r : ℕ) (table′ buckets′ solved′ : List ℕ) : Type 0 where
-  pub grew : Grew (a .to .p) (keysOf table₀ old) round room n table₀ buckets₀ (SetKeys (a .to .S) slot solved′) r table′ buckets′
+  pub grew : Grew (Given (a .to .p) (keysOf table₀ old)) round room n table₀ buckets₀ (SetKeys (a .to .S) slot solved′) r table′ buckets′
   pub there : List·Memᴰ (keyOf slot R) (keysOf table′ r)
   pub keeps : (key : ℕ) → List·Memᴰ key (keysOf table rows) → List·Memᴰ key (keysOf table′ r)
 
@@ -64,7 +64,7 @@ module _ {table₀ solved₀ : List ℕ} {since old newest slot mask n : ℕ} (a
   pub going-begins : Writable table₀ buckets₀ n room → At newest n table₀ buckets₀ solved₀
   going-begins writable =
       record {
-        grew = grew-none (w .p) ks round room n table₀ buckets₀ (SetKeys (w .S) slot solved₀) writable (a .solved-there);
+        grew = grew-none (Given (w .p) ks) round room n table₀ buckets₀ (SetKeys (w .S) slot solved₀) writable (a .solved-there);
         walked = rw (w .newest-is)
             (chain-begins (slotAt table₀) (beforeAt table₀) (w .heads) old (w .chains .by-slot) (w .s) (SolvedRow table₀ slot mask table₀ n)
             (rw (w .chains .all-heads) (omega (arith, to-shape-below w))));
@@ -110,7 +110,7 @@ module _ {table₀ solved₀ : List ℕ} {since old newest slot mask n : ℕ} (a
         turned-there old-one =
             record {
               grew =
-                  grew-must (w .p) ks round room n rows table₀ buckets₀ table buckets (SetKeys (w .S) slot solved) (SetKeys (w .S) slot solved′)
+                  grew-must (Given (w .p) ks) round room n rows table₀ buckets₀ table buckets (SetKeys (w .S) slot solved) (SetKeys (w .S) slot solved′)
                   (λ key k. ⊎-elim (λ o. o) (λ e. (R, of-shape, was-in, e)) (set-keys key k)) (g .grew);
               there = g .grew .all (keyOf slot R) (R, of-shape, was-in, refl);
               keeps = λ key m. m;
@@ -123,32 +123,32 @@ module _ {table₀ solved₀ : List ℕ} {since old newest slot mask n : ℕ} (a
           given : Given (w .p) ks (keyOf slot R)
           given = solution-given w mask (a .q) (a .passes) (maskAt table₀ (link - 1)) R its-call here
 
-          one : Stepped (w .p) ks round room rows table buckets (λ key. key ≡ keyOf slot R) r table′ buckets′
-          one = added-stepped (w .p) ks round room rows slot R r table buckets table′ buckets′ (g .grew .writable) given added l
+          one : Stepped (Given (w .p) ks) round room rows table buckets (λ key. key ≡ keyOf slot R) r table′ buckets′
+          one = added-stepped (Given (w .p) ks) round room rows slot R r table buckets table′ buckets′ (g .grew .writable) given added l
 
           abbrev Both : ℕ → Type 0
           Both key = SetKeys (w .S) slot solved key ⊎ (key ≡ keyOf slot R)
 
-          both : Stepped (w .p) ks round room n table₀ buckets₀ Both r table′ buckets′
+          both : Stepped (Given (w .p) ks) round room n table₀ buckets₀ Both r table′ buckets′
           both =
-              stepped-then (w .p) ks round room n rows r table₀ buckets₀ table buckets table′ buckets′ (SetKeys (w .S) slot solved) (λ key. key ≡ keyOf slot R) (g .grew) one
+              stepped-then (Given (w .p) ks) round room n rows r table₀ buckets₀ table buckets table′ buckets′ (SetKeys (w .S) slot solved) (λ key. key ≡ keyOf slot R) (g .grew) one
 
           -- no room for the row
-          pub going-full : {Must : ℕ → Type 0} → room < r → Stepped (w .p) ks round room n table₀ buckets₀ Must r table′ buckets′
-          going-full past = inr (stepped-past (w .p) ks round room n r table₀ buckets₀ table′ buckets′ Both both past)
+          pub going-full : {Must : ℕ → Type 0} → room < r → Stepped (Given (w .p) ks) round room n table₀ buckets₀ Must r table′ buckets′
+          going-full past = inr (stepped-past (Given (w .p) ks) round room n r table₀ buckets₀ table′ buckets′ Both both past)
 
           -- the row was added
           pub turned-new : r ≤ room → Turned a round room buckets₀ rows table R r table′ buckets′ solved′
           turned-new within =
               record {
-                grew = grew-must (w .p) ks round room n r table₀ buckets₀ table′ buckets′ Both (SetKeys (w .S) slot solved′) set-keys
-                    (stepped-within (w .p) ks round room n r table₀ buckets₀ table′ buckets′ Both both within);
+                grew = grew-must (Given (w .p) ks) round room n r table₀ buckets₀ table′ buckets′ Both (SetKeys (w .S) slot solved′) set-keys
+                    (stepped-within (Given (w .p) ks) round room n r table₀ buckets₀ table′ buckets′ Both both within);
                 there = step .all (keyOf slot R) refl;
                 keeps = behind-keeps (keysOf table rows) (Given (w .p) ks) (keysOf table′ r) (step .behind);
               }
             where
-              step : Grew (w .p) ks round room rows table buckets (λ key. key ≡ keyOf slot R) r table′ buckets′
-              step = stepped-within (w .p) ks round room rows r table buckets table′ buckets′ (λ key. key ≡ keyOf slot R) one within
+              step : Grew (Given (w .p) ks) round room rows table buckets (λ key. key ≡ keyOf slot R) r table′ buckets′
+              step = stepped-within (Given (w .p) ks) round room rows r table buckets table′ buckets′ (λ key. key ≡ keyOf slot R) one within
 
         module _ (r : ℕ) (table′ buckets′ : List ℕ) (t : Turned a round room buckets₀ rows table R r table′ buckets′ solved′) where
           pub turned-read : rowSize * (link - 1) + 4 < length table′
@@ -177,7 +177,7 @@ module _ {table₀ solved₀ : List ℕ} {since old newest slot mask n : ℕ} (a
 
     -- where the walk ends every call row from row `from` on has its solution row
     pub going-ends : (from : ℕ) → link ≤ from
-        → Stepped (w .p) ks round room n table₀ buckets₀ (λ key. Keyed (w .p) (SolvedBy w from (a .q)) key ⊎ SetKeys (w .S) slot solved key) rows table buckets
+        → Stepped (Given (w .p) ks) round room n table₀ buckets₀ (λ key. Keyed (w .p) (SolvedBy w from (a .q)) key ⊎ SetKeys (w .S) slot solved key) rows table buckets
     going-ends from end = inl
         (record {
           writable = g .grew .writable;

@@ -23,7 +23,7 @@ use Rattle.table.specs.Rules.{Row, call}
 use Rattle.table.specs.Keys.{rowKey}
 use Rattle.table.specs.NewRows.{NewReached}
 use Rattle.table.specs.RoundKeys.{Keyed}
-use Rattle.steps.specs.Steps.{RowsIn, Writable, Grew, Stepped}
+use Rattle.steps.specs.Steps.{Given, RowsIn, Writable, Grew, Stepped}
 use Rattle.steps.specs.Heads.{HeadMark, FoundOn}
 use Rattle.solving.specs.Solving.{ToShape, PassesTo, SolvedBy, SolvedBelow, SetKeys, CallsAsked, ShapeSets, FoundFor}
 use Rattle.solving.specs.SolvedSets.{PutFor, passedMark, NoneSolved, FirstPassed}
@@ -105,7 +105,7 @@ Due {slot = slot} w from found q solved key = Keyed (w .p) (SolvedBelow w from f
 -- the marks below q were passed to the shape, and those in `solved` with the mark of variable 15, where the shape has no such variable, are among what was passed
 pub record Through {table₀ : List ℕ} {since old newest slot : ℕ} (w : ToShape table₀ since old newest slot) (here from : ℕ) (found : List ℕ) (round room n : ℕ) (buckets₀ : List ℕ)
     (q rows : ℕ) (table buckets solved : List ℕ) : Type 0 where
-  pub grew : Grew (w .p) (keysOf table₀ old) round room n table₀ buckets₀ (Due w from found q solved) rows table buckets
+  pub grew : Grew (Given (w .p) (keysOf table₀ old)) round room n table₀ buckets₀ (Due w from found q solved) rows table buckets
   pub passed-before : here < passedMark → (N : ℕ) → N ≤ here → InSet solved (passedMark + N) → PassedBelow w found q N
 
 module _ {table₀ : List ℕ} {since old newest slot : ℕ} (w : ToShape table₀ since old newest slot) (here : ℕ) (all : VariablesOf (w .S) here) (from : ℕ) (found : List ℕ)
@@ -119,7 +119,7 @@ module _ {table₀ : List ℕ} {since old newest slot : ℕ} (w : ToShape table�
   pub through-begins : (solved : List ℕ) → Writable table₀ buckets₀ n room → NoneSolved solved here → At 0 n table₀ buckets₀ solved
   through-begins solved writable none =
       record {
-        grew = grew-none (w .p) ks round room n table₀ buckets₀ _ writable
+        grew = grew-none (Given (w .p) ks) round room n table₀ buckets₀ _ writable
             (λ key. ⊎-elim (λ k. absurd (let b = k .1 .1 in omega arith)) (λ (N, of, in-set, e). absurd (none N (mask-within N all of) .0 in-set)));
         passed-before = λ l N few h. absurd (none N few .1 l h);
       }
@@ -130,7 +130,7 @@ module _ {table₀ : List ℕ} {since old newest slot : ℕ} (w : ToShape table�
     through-none r l none =
         record {
           grew =
-              grew-must (w .p) ks round room n rows table₀ buckets₀ table buckets (Due w from found q solved) _
+              grew-must (Given (w .p) ks) round room n rows table₀ buckets₀ table buckets (Due w from found q solved) _
               (λ key. ⊎-elim (λ (row, (m, b, i, by), e). inl (at key row m b i by e (decLt m q))) inr) (t .grew);
           passed-before = λ fewer N few h. let (m, b, i, passes) = t .passed-before fewer N few h in (m, omega arith, i, passes);
         }
@@ -144,9 +144,9 @@ module _ {table₀ : List ℕ} {since old newest slot : ℕ} (w : ToShape table�
     through-past out = through-none (q + 1) (omega arith) (λ m a b i. let e : m ≡ q = omega arith in out (rw e at i))
 
     -- all that are asked for
-    pub through-ends : (marks : ℕ) → marks ≤ q → Stepped (w .p) ks round room n table₀ buckets₀ (Keyed (w .p) (SolvedBelow w from found marks)) rows table buckets
+    pub through-ends : (marks : ℕ) → marks ≤ q → Stepped (Given (w .p) ks) round room n table₀ buckets₀ (Keyed (w .p) (SolvedBelow w from found marks)) rows table buckets
     through-ends marks l =
-        inl (grew-must (w .p) ks round room n rows table₀ buckets₀ table buckets (Due w from found q solved) _
+        inl (grew-must (Given (w .p) ks) round room n rows table₀ buckets₀ table buckets (Due w from found q solved) _
         (λ key (row, (m, b, i, by), e). inl (row, (m, omega arith, i, by), e)) (t .grew))
 
     module _ (mask : ℕ) (first : Bool) (solved′ : List ℕ) (in-set : InSet found q) (passes : PassesTo w mask q) (fp : FirstPassed solved solved′ here mask first) where
@@ -175,7 +175,7 @@ module _ {table₀ : List ℕ} {since old newest slot : ℕ} (w : ToShape table�
       through-again not-first =
           record {
             grew =
-                grew-must (w .p) ks round room n rows table₀ buckets₀ table buckets (Due w from found q solved) _
+                grew-must (Given (w .p) ks) round room n rows table₀ buckets₀ table buckets (Due w from found q solved) _
                 (λ key. ⊎-elim (λ (row, (m, b, i, by), e). inl (at key row m b i by e (ℕ-discrete m q))) (λ k. inr (keys-before key k))) (t .grew);
             passed-before = passed-more;
           }
@@ -206,26 +206,26 @@ module _ {table₀ : List ℕ} {since old newest slot : ℕ} (w : ToShape table�
         abbrev Now : List ℕ → ℕ → Type 0
         Now solved″ key = Keyed (w .p) (SolvedBy (calls-asked .to) from q) key ⊎ SetKeys (w .S) slot solved″ key
 
-        module _ (r : ℕ) (table′ buckets′ solved″ : List ℕ) (s : Stepped (w .p) (keysOf table old) round room rows table buckets (Now solved″) r table′ buckets′) where
+        module _ (r : ℕ) (table′ buckets′ solved″ : List ℕ) (s : Stepped (Given (w .p) (keysOf table old)) round room rows table buckets (Now solved″) r table′ buckets′) where
           abbrev Both : ℕ → Type 0
           Both key = Due w from found q solved key ⊎ Now solved″ key
 
-          both : Stepped (w .p) ks round room n table₀ buckets₀ Both r table′ buckets′
+          both : Stepped (Given (w .p) ks) round room n table₀ buckets₀ Both r table′ buckets′
           both =
-              stepped-then (w .p) ks round room n rows r table₀ buckets₀ table buckets table′ buckets′ (Due w from found q solved) (Now solved″) (t .grew)
-              (subst (λ (ks′ : List ℕ). Stepped (w .p) ks′ round room rows table buckets (Now solved″) r table′ buckets′)
+              stepped-then (Given (w .p) ks) round room n rows r table₀ buckets₀ table buckets table′ buckets′ (Due w from found q solved) (Now solved″) (t .grew)
+              (subst (λ (ks′ : List ℕ). Stepped (Given (w .p) ks′) round room rows table buckets (Now solved″) r table′ buckets′)
               (keys-stay table₀ table n old behind (t .grew .same-rows)) s)
 
-          pub through-full : {Must : ℕ → Type 0} → room < r → Stepped (w .p) ks round room n table₀ buckets₀ Must r table′ buckets′
-          through-full past = inr (stepped-past (w .p) ks round room n r table₀ buckets₀ table′ buckets′ Both both past)
+          pub through-full : {Must : ℕ → Type 0} → room < r → Stepped (Given (w .p) ks) round room n table₀ buckets₀ Must r table′ buckets′
+          through-full past = inr (stepped-past (Given (w .p) ks) round room n r table₀ buckets₀ table′ buckets′ Both both past)
 
           pub through-on : PutFor (w .S) solved′ solved″ → from ≤ old → r ≤ room → At (q + 1) r table′ buckets′ solved″
           through-on put within-old within =
               record {
                 grew =
-                    grew-must (w .p) ks round room n r table₀ buckets₀ table′ buckets′ Both _
+                    grew-must (Given (w .p) ks) round room n r table₀ buckets₀ table′ buckets′ Both _
                     (λ key. ⊎-elim (λ (row, (m, b, i, by), e). at key row m b i by e (ℕ-discrete m q)) (λ k. inr (inr k)))
-                    (stepped-within (w .p) ks round room n r table₀ buckets₀ table′ buckets′ Both both within);
+                    (stepped-within (Given (w .p) ks) round room n r table₀ buckets₀ table′ buckets′ Both both within);
                 passed-before = λ l N few h.
                     ⊎-elim (passed-more l N few) (λ of. absurd (let b = mask-within (passedMark + N) all of in omega (arith, l, b))) (put (passedMark + N) h);
               }

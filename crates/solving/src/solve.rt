@@ -18,7 +18,7 @@ ghost use Rattle.program.specs.Limits.{masks};
 ghost use Rattle.rows.specs.Rows.{keysOf};
 ghost use Rattle.rows.specs.MaskSet.{setWords, InSet};
 ghost use Rattle.table.specs.RoundKeys.{Keyed};
-ghost use Rattle.steps.specs.Steps.{Writable, Stepped};
+ghost use Rattle.steps.specs.Steps.{Given, Writable, Stepped};
 ghost use Rattle.solving.specs.Solving.{ToShape, SolvedBy, SolvedBelow, SetKeys, ShapeSets, FoundFor, CallsAsked, ShapeAsked, SetsAsked, SolvedAt};
 ghost use Rattle.solving.specs.SolvedSets.{PutFor, NoneSolved, FirstPassed};
 
@@ -43,7 +43,7 @@ fn solve_calls(
     requires { ⌜ CallsAsked (now table) (now solved) (at .since) (at .rows) newest slot mask n × Writable (now table) (now buckets) n (at .room) × (at .rows ≤ n)
         × (length (now solved) ≡ setWords) ⌝ }
     ensures { λ r. ⌜ ((a : CallsAsked (now (table .entry)) (now (solved .entry)) (at .since) (at .rows) newest slot mask n)
-        → Stepped (a .to .p) (keysOf (now (table .entry)) (at .rows)) (at .number) (at .room) n (now (table .entry)) (now (buckets .entry))
+        → Stepped (Given (a .to .p) (keysOf (now (table .entry)) (at .rows))) (at .number) (at .room) n (now (table .entry)) (now (buckets .entry))
         (λ key. Keyed (a .to .p) (SolvedBy (a .to) from (a .q)) key ⊎ SetKeys (a .to .S) slot (now (solved .exit)) key) r (now (table .exit)) (now (buckets .exit)))
         × ((a : CallsAsked (now (table .entry)) (now (solved .entry)) (at .since) (at .rows) newest slot mask n) → PutFor (a .to .S) (now (solved .entry)) (now (solved .exit))) ⌝ }
 {
@@ -108,7 +108,7 @@ fn solve_marks(
     requires { ⌜ ShapeAsked (now table) (now sets) (now found) (at .since) from (at .rows) newest slot here there marks × Writable (now table) (now buckets) n (at .room) × (at .rows ≤ n)
         × (length (now solved) ≡ setWords) × NoneSolved (now solved) here ⌝ }
     ensures { λ r. ⌜ ((w : ToShape (now (table .entry)) (at .since) (at .rows) newest slot) → ShapeSets (w .S) (w .c .head) (now (sets .entry)) here there → FoundFor w (now (found .entry)) marks
-        → Stepped (w .p) (keysOf (now (table .entry)) (at .rows)) (at .number) (at .room) n (now (table .entry)) (now (buckets .entry))
+        → Stepped (Given (w .p) (keysOf (now (table .entry)) (at .rows))) (at .number) (at .room) n (now (table .entry)) (now (buckets .entry))
         (Keyed (w .p) (SolvedBelow w from (now (found .entry)) marks)) r (now (table .exit)) (now (buckets .exit))) ⌝ }
 {
     let room = at.room;
@@ -148,7 +148,7 @@ fn solve_set(
     requires { ⌜ ShapeAsked (now table) (now sets) (now found) (at .since) from (at .rows) newest slot here there marks × Writable (now table) (now buckets) n (at .room) × (at .rows ≤ n)
         × (length (now solved) ≡ setWords) ⌝ }
     ensures { λ r. ⌜ ((w : ToShape (now (table .entry)) (at .since) (at .rows) newest slot) → ShapeSets (w .S) (w .c .head) (now (sets .entry)) here there → FoundFor w (now (found .entry)) marks
-        → Stepped (w .p) (keysOf (now (table .entry)) (at .rows)) (at .number) (at .room) n (now (table .entry)) (now (buckets .entry))
+        → Stepped (Given (w .p) (keysOf (now (table .entry)) (at .rows))) (at .number) (at .room) n (now (table .entry)) (now (buckets .entry))
         (Keyed (w .p) (SolvedBelow w from (now (found .entry)) marks)) r (now (table .exit)) (now (buckets .exit))) ⌝ }
 {
     let words = wide(here) / 16 + 1;
@@ -193,7 +193,7 @@ pub fn solve_shape(
     requires { ⌜ SetsAsked (now table) (now sets) (now known) (now found) (at .since) (at .rows) newest slot here there «known_marks» marks × Writable (now table) (now buckets) n (at .room) × (at .rows ≤ n)
         × (length (now solved) ≡ setWords) ⌝ }
     ensures { λ r. ⌜ ((a : SetsAsked (now (table .entry)) (now (sets .entry)) (now (known .entry)) (now (found .entry)) (at .since) (at .rows) newest slot here there «known_marks» marks)
-        → Stepped (a .to .p) (keysOf (now (table .entry)) (at .rows)) (at .number) (at .room) n (now (table .entry)) (now (buckets .entry))
+        → Stepped (Given (a .to .p) (keysOf (now (table .entry)) (at .rows))) (at .number) (at .room) n (now (table .entry)) (now (buckets .entry))
         (SolvedAt (a .to .p) (keysOf (now (table .entry)) (at .since)) (keysOf (now (table .entry)) (at .rows)) (a .to .k) (now (known .entry)) (now (found .entry)) (a .to .s)) r (now (table .exit)) (now (buckets .exit))) ⌝ }
 {
     let since = at.since;

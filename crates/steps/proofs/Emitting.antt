@@ -27,7 +27,7 @@ use Rattle.table.specs.RoundKeys.{Keyed}
 use Rattle.table.proofs.ShapeVariables.{number-below}
 use Rattle.table.proofs.Steps.{goes-two}
 use Rattle.steps.specs.Situation.{Place}
-use Rattle.steps.specs.Steps.{RowsIn, Writable, Stepped, Emitted, emitted-call, emitted-cont}
+use Rattle.steps.specs.Steps.{Given, RowsIn, Writable, Stepped, Emitted, emitted-call, emitted-cont}
 use Rattle.steps.proofs.Bodies.{body-there, body-few, body-is-atom}
 use Rattle.steps.proofs.Stepping.{added-stepped, stepped-then, stepped-must, stepped-within, stepped-past, overfull-stepped}
 
@@ -89,18 +89,18 @@ module _ {dir order : List ℕ} {count j : ℕ} (w : Place dir order count j) wh
 
     -- the cont row
     pub cont-stepped : (slot r : ℕ) (table′ buckets′ : List ℕ) → slot ≡ firstCont + j → Added table buckets n room round slot listed r table′ buckets′
-        → length table′ ≡ length table → Stepped (w .p) ks round room n table buckets ContKey r table′ buckets′
+        → length table′ ≡ length table → Stepped (Given (w .p) ks) round room n table buckets ContKey r table′ buckets′
     cont-stepped slot r table′ buckets′ e added l =
         let same : slot ≡ firstCont + bodyIndex (w .p) (w .k) (w .i) = e ∙ ap (λ (x : ℕ). firstCont + x) (w .is) in
-        added-stepped (w .p) ks round room n (firstCont + bodyIndex (w .p) (w .k) (w .i)) listed r table buckets table′ buckets′ writable
+        added-stepped (Given (w .p) ks) round room n (firstCont + bodyIndex (w .p) (w .k) (w .i)) listed r table buckets table′ buckets′ writable
         (cont (suc (w .k)) (suc (w .i)) listed, conts reached (w .nth-clause) (w .nth-atom) kept-listed, refl)
         (rw same at added) l
 
     -- no room for it, and so none for both
-    pub emitted-full : (r : ℕ) (table′ buckets′ : List ℕ) → Stepped (w .p) ks round room n table buckets ContKey r table′ buckets′ → room < r
-        → Stepped (w .p) ks round room n table buckets (Keyed (w .p) (Emitted (w .p) (w .k) (w .i) mask)) r table′ buckets′
+    pub emitted-full : (r : ℕ) (table′ buckets′ : List ℕ) → Stepped (Given (w .p) ks) round room n table buckets ContKey r table′ buckets′ → room < r
+        → Stepped (Given (w .p) ks) round room n table buckets (Keyed (w .p) (Emitted (w .p) (w .k) (w .i) mask)) r table′ buckets′
     emitted-full r table′ buckets′ s l =
-        overfull-stepped (w .p) ks round room n r table buckets table′ buckets′ _ (stepped-past (w .p) ks round room n r table buckets table′ buckets′ ContKey s l)
+        overfull-stepped (Given (w .p) ks) round room n r table buckets table′ buckets′ _ (stepped-past (Given (w .p) ks) round room n r table buckets table′ buckets′ ContKey s l)
 
     module _ (renumbered : ℕ) (reordered : Reordered order count mask renumbered) where
       numbered : Renumbered (w .A) (number (w .A)) mask renumbered
@@ -110,16 +110,16 @@ module _ {dir order : List ℕ} {count j : ℕ} (w : Place dir order count j) wh
       CallKey key = key ≡ rowKey (w .p) (call (shapeNumber (w .p) (w .A)) renumbered)
 
       -- and then the call row
-      pub emitted-both : (next r shape : ℕ) (table′ buckets′ table″ buckets″ : List ℕ) → Stepped (w .p) ks round room n table buckets ContKey next table′ buckets′
+      pub emitted-both : (next r shape : ℕ) (table′ buckets′ table″ buckets″ : List ℕ) → Stepped (Given (w .p) ks) round room n table buckets ContKey next table′ buckets′
           → next ≤ room → shape ≡ getD dir (bodyShape + j) 0 → Added table′ buckets′ next room round shape renumbered r table″ buckets″ → length table″ ≡ length table′
-          → Stepped (w .p) ks round room n table buckets (Keyed (w .p) (Emitted (w .p) (w .k) (w .i) mask)) r table″ buckets″
+          → Stepped (Given (w .p) ks) round room n table buckets (Keyed (w .p) (Emitted (w .p) (w .k) (w .i) mask)) r table″ buckets″
       emitted-both next r shape table′ buckets′ table″ buckets″ s within e added l =
-          let g = stepped-within (w .p) ks round room n next table buckets table′ buckets′ ContKey s within in
-          let called = added-stepped (w .p) ks round room next (shapeNumber (w .p) (w .A)) renumbered r table′ buckets′ table″ buckets″ (g .writable)
+          let g = stepped-within (Given (w .p) ks) round room n next table buckets table′ buckets′ ContKey s within in
+          let called = added-stepped (Given (w .p) ks) round room next (shapeNumber (w .p) (w .A)) renumbered r table′ buckets′ table″ buckets″ (g .writable)
           (call (shapeNumber (w .p) (w .A)) renumbered, calls reached (w .nth-clause) (w .nth-atom) numbered, refl)
           (rw (e, place-there .shape) at added) l in
-          stepped-must (w .p) ks round room n r table buckets table″ buckets″ (λ key. ContKey key ⊎ CallKey key) _ all
-          (stepped-then (w .p) ks round room n next r table buckets table′ buckets′ table″ buckets″ ContKey CallKey g called)
+          stepped-must (Given (w .p) ks) round room n r table buckets table″ buckets″ (λ key. ContKey key ⊎ CallKey key) _ all
+          (stepped-then (Given (w .p) ks) round room n next r table buckets table′ buckets′ table″ buckets″ ContKey CallKey g called)
         where
           all : (key : ℕ) → Keyed (w .p) (Emitted (w .p) (w .k) (w .i) mask) key → ContKey key ⊎ CallKey key
           all key (row, given, e) =

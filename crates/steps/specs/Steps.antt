@@ -1,4 +1,4 @@
--- What a step of a round adds to the rows: only what the rules give from the rows so far, and all that it must.
+-- What a step adds to the rows: only what it may, and all that it must. In a round it may add what the rules give from the rows so far.
 use Prim.Native.Nat.{ℕ, suc, _+_, _*_, _≤_, _<_}
 use mathlib.Core.Path.{_≡_}
 use mathlib.Core.Logic.{_⊎_}
@@ -31,25 +31,25 @@ pub record Writable (table buckets : List ℕ) (n room : ℕ) : Type 0 where
   pub room-most : room ≤ maxRows
   pub room-there : rowSize * room ≤ length table
 
--- rows were added behind the first n, all of them given by the rules from the rows `ks`, each with the round's number; and all that must be are there
-pub record Grew (p : Program) (ks : List ℕ) (round room n : ℕ) (table buckets : List ℕ) (Must : ℕ → Type 0) (n′ : ℕ) (table′ buckets′ : List ℕ) : Type 0 where
+-- rows were added behind the first n, all with keys that the step may add, each with the round's number; and all that must be are there
+pub record Grew (May : ℕ → Type 0) (round room n : ℕ) (table buckets : List ℕ) (Must : ℕ → Type 0) (n′ : ℕ) (table′ buckets′ : List ℕ) : Type 0 where
   pub writable : Writable table′ buckets′ n′ room
   pub more : n ≤ n′
   pub same-rows : SameRows table table′ n
   pub same-length : length table′ ≡ length table
   pub rounds : (r : ℕ) → n ≤ r → r < n′ → roundAt table′ r ≡ round
-  pub behind : Behind (keysOf table n) (Given p ks) (keysOf table′ n′)
+  pub behind : Behind (keysOf table n) May (keysOf table′ n′)
   pub all : (key : ℕ) → Must key → List·Memᴰ key (keysOf table′ n′)
 
--- the room is full, and the rules give a row more
-pub record Overfull (p : Program) (ks : List ℕ) (room n : ℕ) (table : List ℕ) (n′ : ℕ) : Type 0 where
+-- the room is full, and the step may add a row more
+pub record Overfull (May : ℕ → Type 0) (room n : ℕ) (table : List ℕ) (n′ : ℕ) : Type 0 where
   pub over : n′ ≡ room + 1
   pub kept : List ℕ
-  pub full : Full (keysOf table n) (Given p ks) room kept
+  pub full : Full (keysOf table n) May room kept
 
-abbrev pub Stepped : Program → List ℕ → ℕ → ℕ → ℕ → List ℕ → List ℕ → (ℕ → Type 0) → ℕ → List ℕ → List ℕ → Type 0
-Stepped p ks round room n table buckets Must n′ table′ buckets′ =
-    Grew p ks round room n table buckets Must n′ table′ buckets′ ⊎ (Overfull p ks room n table n′ × (length table′ ≡ length table))
+abbrev pub Stepped : (ℕ → Type 0) → ℕ → ℕ → ℕ → List ℕ → List ℕ → (ℕ → Type 0) → ℕ → List ℕ → List ℕ → Type 0
+Stepped May round room n table buckets Must n′ table′ buckets′ =
+    Grew May round room n table buckets Must n′ table′ buckets′ ⊎ (Overfull May room n table n′ × (length table′ ≡ length table))
 
 -- the rows that marks N, with which the rules come past the first i body atoms of clause k, give for the next atom
 pub data Emitted (p : Program) (k i N : ℕ) : Row ℕ → Type 0 where

@@ -12,7 +12,7 @@ ghost use Rattle.rows.specs.Rows.{keysOf};
 ghost use Rattle.table.specs.Rules.{Reached};
 ghost use Rattle.table.specs.RoundKeys.{Keyed};
 ghost use Rattle.steps.specs.Situation.{Place};
-ghost use Rattle.steps.specs.Steps.{RowsIn, Writable, Emitted, Stepped};
+ghost use Rattle.steps.specs.Steps.{Given, RowsIn, Writable, Emitted, Stepped};
 
 // Where the slots of cont rows and of solution rows begin; those of call rows begin at 0.
 pub const CONTS: usize = MAX_SHAPES;
@@ -45,7 +45,7 @@ pub fn emit(
     requires { ⌜ Place (now dir) (now order) count j × Writable (now table) (now buckets) n (at .room) × (at .rows ≤ n) ⌝ }
     ensures { λ r. ⌜ ((w : Place (now (dir .entry)) (now (order .entry)) count j)
         → Reached modes (w .p) (RowsIn (w .p) (keysOf (now (table .entry)) (at .rows))) (w .k) (w .i) mask
-        → Stepped (w .p) (keysOf (now (table .entry)) (at .rows)) (at .number) (at .room) n (now (table .entry)) (now (buckets .entry))
+        → Stepped (Given (w .p) (keysOf (now (table .entry)) (at .rows))) (at .number) (at .room) n (now (table .entry)) (now (buckets .entry))
         (Keyed (w .p) (Emitted (w .p) (w .k) (w .i) mask)) r (now (table .exit)) (now (buckets .exit))) ⌝ }
 {
     let number = at.number;

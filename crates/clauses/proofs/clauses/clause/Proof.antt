@@ -7,6 +7,7 @@ use lib.ListN.{length, replicate}
 use Rattle.program.specs.Limits.{maxRows}
 use Rattle.rows.specs.Rows.{keysOf}
 use Rattle.rows.specs.MaskSet.{setWords}
+use Rattle.steps.specs.Steps.{Given}
 use Rattle.steps.specs.Situation.{HeadAsked}
 use Rattle.steps.proofs.Stepping.{stepped-within, stepped-past}
 use Rattle.ends.proofs.ClauseRows.{clause-few, end-after, stands-on}
@@ -71,7 +72,7 @@ returns c =
     let step = c .before .before .before .before .before .before .before .before .before .before .before .middle-places in
     let over = c .if2 .taken in (
       record { all-answers = step .kept .1 .1 .1 .1 .1 .1 .0 ∙ s .pre .3 .all-answers; none-found = step .ensures .0 },
-      λ w. inr (stepped-past (w .situation .p) (keysOf (a .table .now) (a .at .rows)) (a .at .number) (a .at .room) (a .n) (step .result) (a .table .now) (a .buckets .now) (step .last .1 .1 .0) (step .last .1 .1 .1 .0) _
+      λ w. inr (stepped-past (Given (w .situation .p) (keysOf (a .table .now) (a .at .rows))) (a .at .number) (a .at .room) (a .n) (step .result) (a .table .now) (a .buckets .now) (step .last .1 .1 .0) (step .last .1 .1 .1 .0) _
           (step .ensures .1 (places-asked (a .words .now) (a .dir .now) (a .table .now) (a .heads .now) (a .at .since) (a .at .rows) (a .k) w (c .before .before .before .before .before .before .before .before .before .before .before .before .before .before .before .before .before .before .before .before .wide .result) (c .before .before .before .before .before .before .before .before .before .before .before .before .before .before .before .before .before .before .wide2 .result) (c .before .before .before .before .before .before .before .before .before .before .before .before .before .before .before .before .before .before .before .before .wide .ensures .0) (c .before .before .before .before .before .before .before .before .before .before .before .before .before .before .before .before .before .before .wide2 .ensures .0) (c .before .before .before .before .before .before .before .before .before .before .before .before .before .before .before .before .before .if1 .taken))) over),
       λ l. absurd (none-over over l),
       λ l. absurd (none-over over l),
@@ -88,7 +89,7 @@ past c =
     (λ z. rw (z .18, z .19, z .20, z .21, z .22, z .23) (
       z .6 .ensures .0,
       z .6 .kept .1 .1 .1 .1 .1 .1 .0 ∙ s .pre .3 .all-answers,
-      λ w. stepped-within (w .situation .p) (keysOf (a .table .now) (a .at .rows)) (a .at .number) (a .at .room) (a .n) (z .6 .result) (a .table .now) (a .buckets .now) (z .6 .last .1 .1 .0) (z .6 .last .1 .1 .1 .0) _
+      λ w. stepped-within (Given (w .situation .p) (keysOf (a .table .now) (a .at .rows))) (a .at .number) (a .at .room) (a .n) (z .6 .result) (a .table .now) (a .buckets .now) (z .6 .last .1 .1 .0) (z .6 .last .1 .1 .1 .0) _
           (z .6 .ensures .1 (places-asked (a .words .now) (a .dir .now) (a .table .now) (a .heads .now) (a .at .since) (a .at .rows) (a .k) w (c .before .before .before .wide .result) (c .before .wide2 .result) (c .before .before .before .wide .ensures .0) (c .before .wide2 .ensures .0) (z .0 .taken))) (z .17 .left),
       z .6 .ensures .2 (z .17 .left),
     ))

@@ -6,7 +6,7 @@ use mathlib.Core.Logic.{inr}
 use lib.ListN.{length, replicate}
 use Rattle.rows.specs.Rows.{keysOf}
 use Rattle.rows.specs.MaskSet.{setWords}
-use Rattle.steps.specs.Steps.{Grew}
+use Rattle.steps.specs.Steps.{Given, Grew}
 use Rattle.clauses.specs.Clauses.{MiddlesAsked, PastPlaces}
 use Rattle.steps.proofs.Stepping.{stepped-within, stepped-past}
 use Rattle.joining.specs.KeptAnswers.{KeepsAnswers}
@@ -20,7 +20,7 @@ Inv-loop words dir table₀ buckets₀ heads seen₀ answers₀ answered₀ n at
     (first ≤ j) × (j ≤ last) × (length table ≡ length table₀) × (length buckets ≡ length buckets₀) × (length seen ≡ length seen₀) × (length answers ≡ length answers₀)
     × (seen ≡ replicate setWords 0)
     × ((w : MiddlesAsked words dir table₀ heads (at .since) (at .rows) first last)
-    → Grew (w .situation .p) (keysOf table₀ (at .rows)) (at .number) (at .room) n table₀ buckets₀ (PastPlaces (w .situation .p) (keysOf table₀ (at .since)) (keysOf table₀ (at .rows)) (w .k) (j - first)) rows table buckets)
+    → Grew (Given (w .situation .p) (keysOf table₀ (at .rows))) (at .number) (at .room) n table₀ buckets₀ (PastPlaces (w .situation .p) (keysOf table₀ (at .since)) (keysOf table₀ (at .rows)) (w .k) (j - first)) rows table buckets)
     × KeepsAnswers words dir table answered (at .rows)
 
 abbrev μ-loop : tie.MeasureT-loop
@@ -61,7 +61,7 @@ same-length-5 c =
 returns : tie.Need-returns Inv-loop μ-loop
 returns c = let s = c .before .before .before .before .before .before .before .before .before .before .before .before .before .before .before .before .before .before .before .before .before .before .before .before .before .before .before in let inv = c .before .before .before .before .before .before .before .before .before .before .before .before .before .before .before .before .before .before .loop .inv in (
   c .before .before .before .before .before .before .before .before .before .before .before .middle-place .ensures .0,
-  λ w. inr (stepped-past _ _ (s .args .at .number) _ _ _ _ _ _ _ _
+  λ w. inr (stepped-past _ (s .args .at .number) _ _ _ _ _ _ _ _
       (middle-next _ _ _ _ _ _ _ _ _ _ _ _ (s .pre .2) w _ _ _ (c .before .before .before .before .before .before .before .before .before .before .before .before .before .before .before .before .before .before .loop .j) (inv .0) (c .before .before .before .before .before .before .before .before .before .before .before .before .before .before .before .before .before .loop-test .taken) (inv .7 w) _ _ _ (c .before .before .before .before .before .before .before .before .before .before .before .middle-place .ensures .2)) (c .if1 .taken)),
   λ l. absurd (omega (arith, c .if1 .taken)),
 )
@@ -81,7 +81,7 @@ loop-again c = let s = c .before .before .before .before .before .before .before
   step .kept .1 .1 .1 .1 .1 .0 ∙ inv .4,
   step .kept .1 .1 .1 .1 .1 .1 .0 ∙ inv .5,
   step .ensures .0,
-  λ w. stepped-within _ _ (s .args .at .number) _ _ _ _ _ _ _ _
+  λ w. stepped-within _ (s .args .at .number) _ _ _ _ _ _ _ _
       (middle-next _ _ _ _ _ _ _ _ _ _ _ _ (s .pre .2) w _ _ _ (c .before .before .before .before .before .before .before .before .before .before .before .before .before .before .before .before .before .before .loop .j) (inv .0) (c .before .before .before .before .before .before .before .before .before .before .before .before .before .before .before .before .before .loop-test .taken) (inv .7 w) _ _ _ (step .ensures .2)) (c .if1 .left),
   let g = inv .7 (s .pre .0) in
       let m = middle-asked _ _ _ _ _ _ _ _ _ _ _ _ (s .pre .2) (s .pre .0) _ _ _ (c .before .before .before .before .before .before .before .before .before .before .before .before .before .before .before .before .before .before .loop .j) (inv .0) (c .before .before .before .before .before .before .before .before .before .before .before .before .before .before .before .before .before .loop-test .taken) g in

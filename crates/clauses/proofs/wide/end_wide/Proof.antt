@@ -135,7 +135,7 @@ returns c =
         all-answers = c .before .before .before .before .before .before .before .before .before .before .before .before .before .at-head .kept .1 .1 .1 .1 .1 .0 ∙ c .before .before .before .before .before .before .before .before .before .before .before .before .before .before .before .before .before .before .before .before .before .before .before .before .before .before .before .before .before .head-marks .kept .1 .1 .1 .1 .0 ∙ s .pre .3 .all-answers;
         none-found = c .before .before .clear .ensures ∙ cleared-empty (c .before .before .before .before .before .before .before .before .before .before .before .before .before .before .before .before .before .before .before .before .before .before .before .before .before .before .before .before .before .head-marks .last .1 .1 .1 .1 .1 .1 .1 .1 .0) ((c .before .before .before .before .before .before .before .before .before .before .before .before .before .before .before .before .before .before .before .before .if2 .marks + 15) / 16) (new-marks (c .before .before .before .before .before .before .before .before .before .before .before .before .before .before .before .before .before .before .before .before) (s .pre .0) .size) (omega (arith, found .few)) (λ i. c .before .before .before .before .before .before .before .before .before .before .before .before .before .before .before .before .before .before .before .before .before .before .before .before .before .slice-known8 .given i .fits) (λ q h. omega (arith, found .below q h));
       },
-      λ w. stepped-must _ _ (s .args .at .number) _ _ _ _ _ _ _ _ _
+      λ w. stepped-must _ (s .args .at .number) _ _ _ _ _ _ _ _ _
           (wide-ends _ _ _ _ _ _ _ w _ _ _ (early (c .before .before .before .before .before .before .before .before .before .before .before .before .before .before .before .before .before .before .before .before .before .before .before .before .before .before .before .before .before .before .before .before .before .before .before) .0) (early (c .before .before .before .before .before .before .before .before .before .before .before .before .before .before .before .before .before .before .before .before .before .before .before .before .before .before .before .before .before .before .before .before .before .before .before) .1 w) (found-holds _ _ _ _ _ _ _ w _ _ (le-refl _) _ (new-marks (c .before .before .before .before .before .before .before .before .before .before .before .before .before .before .before .before .before .before .before .before) w)))
           (c .before .before .before .before .before .before .before .before .before .before .before .before .before .at-head .ensures .0 (asked (c .before .before .before .before .before .before .before .before .before .before .before .before .before .before .before .before .before .before .before .before) w)),
       λ l.

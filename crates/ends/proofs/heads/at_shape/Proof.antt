@@ -36,7 +36,7 @@ same-length-2 : tie.Need-same-length-2
 same-length-2 c = c .before .before .before .before .before .emit-shape .kept .1 .1 .1 .1 .0
 
 returns : tie.Need-returns
-returns c = λ a. inr (stepped-past _ _ (c .before .before .before .before .before .before .before .before .before .before .before .before .before .before .before .before .before .before .args .at .number) _ _ _ _ _ _ _ _ (c .before .before .before .before .before .emit-shape .ensures (emit-asked a (here-variables a (rw (c .before .before .before .before .before .before .before .before .before .before .wide .ensures .0) at (c .before .before .before .before .before .before .before .before .before .first-variables .ensures))) (c .before .before .before .before .before .before .before .before .if1 .taken))) (c .if2 .taken))
+returns c = λ a. inr (stepped-past _ (c .before .before .before .before .before .before .before .before .before .before .before .before .before .before .before .before .before .before .args .at .number) _ _ _ _ _ _ _ _ (c .before .before .before .before .before .emit-shape .ensures (emit-asked a (here-variables a (rw (c .before .before .before .before .before .before .before .before .before .before .wide .ensures .0) at (c .before .before .before .before .before .before .before .before .before .first-variables .ensures))) (c .before .before .before .before .before .before .before .before .if1 .taken))) (c .if2 .taken))
 
 -- the new call rows have opened the body
 opened : (c : tie.Joined1)
@@ -44,7 +44,7 @@ opened : (c : tie.Joined1)
     → Opened a (c .before .before .before .before .before .before .before .before .before .before .args .at .number) (c .before .before .before .before .before .before .before .before .before .before .args .at .room) (c .before .before .before .before .before .before .before .before .before .before .args .n) (c .before .before .before .before .before .before .before .before .before .before .args .buckets .now) (c .if1 .rows) (c .if1 .table) (c .if1 .buckets)
 opened c a =
     ⊎-elim
-    (λ z. rw (z .9, z .10, z .11) (stepped-within _ _ _ _ _ _ _ _ _ _ _ (z .3 .ensures (emit-asked a (here-variables a (rw (c .before .before .wide .ensures .0) at (c .before .first-variables .ensures))) (z .0 .taken))) (z .8 .left)))
+    (λ z. rw (z .9, z .10, z .11) (stepped-within _ _ _ _ _ _ _ _ _ _ (z .3 .ensures (emit-asked a (here-variables a (rw (c .before .before .wide .ensures .0) at (c .before .first-variables .ensures))) (z .0 .taken))) (z .8 .left)))
     (λ z. rw (z .1, z .2, z .3) (opened-none a _ _ _ _ (c .before .before .before .before .before .before .before .before .before .before .pre .1) (z .0 .left)))
     (c .if1 .came)
 

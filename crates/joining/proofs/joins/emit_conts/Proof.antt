@@ -67,7 +67,7 @@ returns c =
     let a = c .before .before .before .before .before .before .before .before .before .before .before .before .before .before .before .loop in
     let turn : Turn (s .args .at .since) (s .args .fresh) (s .args .all) (a .link - 1) (c .before .before .before .before .before .before .before .before .before .before .before .before .before .if1 .upto) = ⊎-elim (λ arm. inl (arm .0 .taken, arm .1)) (λ arm. inr (arm .0 .left, arm .1)) (c .before .before .before .before .before .before .before .before .before .before .before .before .before .if1 .came) in
     inr
-    (stepped-past _ _ _ _ _ _ _ _ _ _ _
+    (stepped-past _ _ _ _ _ _ _ _ _ _
     (row-emitted w _ _ _ _ (s .pre .2) _ _ _ _ _ (a .inv .1 w) (c .before .before .before .before .before .before .before .before .before .before .before .before .before .before .loop-test .taken) _ _ turn (c .before .before .before .before .before .before .before .before .before .before .before .mask-at .ensures) _ _ _ (c .before .before .before .before .before .before .before .emit-joined .ensures .1))
     (c .if2 .taken))
 

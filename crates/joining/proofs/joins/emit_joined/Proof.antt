@@ -66,7 +66,7 @@ returns c =
     let t = c .before .before .before .before .before .before .before .before .before .before .before .before .before .together .ensures in
     let q : a .i < length (s .args .answers .now) = omega (arith, l, s .pre .0 .most) in (
       had-all (s .args .seen .now) _ _ (a .i) _ (c .before .before .before .before .before .before .before .before .before .before .before .insert .last .0) l (had-more (s .args .seen .now) (a .seen) (c .before .before .before .before .before .before .before .before .before .before .before .insert .last .0) _ _ _ _ _ q t (c .before .before .before .before .before .before .before .before .before .before .before .insert .ensures) (a .inv .2)),
-      λ w. inr (stepped-past _ _ _ _ _ _ _ _ _ _ _ (answer-emitted w _ _ _ _ _ _ _ _ l t (a .inv .3 w) _ _ _ (s .pre .2) (c .before .before .before .before .before .emit .ensures)) (c .if2 .taken)),
+      λ w. inr (stepped-past _ _ _ _ _ _ _ _ _ _ (answer-emitted w _ _ _ _ _ _ _ _ l t (a .inv .3 w) _ _ _ (s .pre .2) (c .before .before .before .before .before .emit .ensures)) (c .if2 .taken)),
     )
 
 add-i : tie.Need-add-i Inv-loop μ-loop
@@ -88,7 +88,7 @@ loop-again c =
       had-more (s .args .seen .now) (a .seen) (c .before .before .before .insert .last .0) _ _ _ _ _ q t i (a .inv .2),
       λ w.
           ⊎-elim
-          (λ arm. grew-as (arm .11) (arm .9) (arm .10) (stepped-within _ _ _ _ _ _ _ _ _ _ _ (answer-emitted w _ _ _ _ _ _ _ _ l t (a .inv .3 w) _ _ _ (s .pre .2) (arm .3 .ensures)) (arm .8 .left)))
+          (λ arm. grew-as (arm .11) (arm .9) (arm .10) (stepped-within _ _ _ _ _ _ _ _ _ _ (answer-emitted w _ _ _ _ _ _ _ _ l t (a .inv .3 w) _ _ _ (s .pre .2) (arm .3 .ensures)) (arm .8 .left)))
           (λ arm. grew-as (arm .3) (arm .1) (arm .2) (answer-had w _ _ _ _ _ _ _ _ l t (a .inv .3 w) (a .inv .2 _ (was-there _ _ _ _ i (λ b. rw (arm .0 .left) at b)))))
           (c .if1 .came),
     )

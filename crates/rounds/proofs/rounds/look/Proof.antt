@@ -42,7 +42,7 @@ returns-2 : tie.Need-returns-2
 returns-2 c = (
   c .before .before .before .before .before .before .before .before .before .before .before .pre .3,
   λ w.
-      stepped-none _ _ (c .before .before .before .before .before .before .before .before .before .before .before .args .at .number) _ _ _ _ _ (c .before .before .before .before .before .before .before .before .before .before .before .pre .1)
+      stepped-none _ (c .before .before .before .before .before .before .before .before .before .before .before .args .at .number) _ _ _ _ _ (c .before .before .before .before .before .before .before .before .before .before .before .pre .1)
       (λ key (row, h, e). absurd (not-looked (w .situation .setting) _ _ _ (λ r new by. c .if1 .left (asked-every (c .before .before .before .before .before .before .before .before .before .before .before .pre .0) w r new by)) row h)),
   λ l. c .before .before .before .before .before .before .before .before .before .before .before .pre .4,
   λ l. c .before .before .before .before .before .before .before .before .before .before .before .pre .5,

@@ -11,7 +11,7 @@ use Rattle.table.specs.Added.{Below}
 use Rattle.table.specs.NewRows.{NewIn}
 use Rattle.table.specs.RoundKeys.{Keyed}
 use Rattle.steps.specs.Situation.{Situation}
-use Rattle.steps.specs.Steps.{RowsIn, Grew}
+use Rattle.steps.specs.Steps.{Given, RowsIn, Grew}
 use Rattle.ends.specs.Ends.{Scratch}
 use Rattle.ends.specs.Keeping.{KeepsMarks}
 use Rattle.joining.specs.KeptAnswers.{KeepsAnswers}
@@ -26,7 +26,7 @@ Inv-loop words dir table₀ buckets₀ heads unifiers₀ answers₀ found₀ kep
     (k ≤ clauses) × (length table ≡ length table₀) × (length buckets ≡ length buckets₀) × (length unifiers ≡ length unifiers₀) × (length answers ≡ length answers₀) × (length found ≡ length found₀)
     × Scratch answers found × (clauses ≡ getD dir clauseCount 0)
     × ((w : Situation words dir table₀ heads (at .since) (at .rows))
-    → Grew (w .p) (keysOf table₀ (at .rows)) (at .number) (at .room) (at .rows) table₀ buckets₀
+    → Grew (Given (w .p) (keysOf table₀ (at .rows))) (at .number) (at .room) (at .rows) table₀ buckets₀
     (Below (λ k. Keyed (w .p) (NewIn modes (w .p) (RowsIn (w .p) (keysOf table₀ (at .since))) (RowsIn (w .p) (keysOf table₀ (at .rows))) k)) k) rows table buckets)
     × (length kept ≡ length kept₀) × KeepsMarks words dir table kept (at .rows) rows × KeepsAnswers words dir table answered (at .rows)
 
@@ -81,7 +81,7 @@ returns : tie.Need-returns Inv-loop μ-loop
 returns c = let s = c .before .before .before .before .before .before .before .before .before .before .before .before .before .before .before .before .before .before .before .before .before .before .before .before .before .before .before .before .before .before .before .before .before .before .before .before .before .before .before .before .before in let inv = c .before .before .before .before .before .before .before .before .before .before .before .before .before .before .before .before .before .before .before .before .before .before .before .before .loop .inv in
     let b : (w : Situation (s .args .words .now) (s .args .dir .now) (s .args .table .now) (s .args .heads .now) (s .args .at .since) (s .args .at .rows)) → c .before .before .before .before .before .before .before .before .before .before .before .before .before .before .before .before .before .before .before .before .before .before .before .before .loop .k < length (w .p .clauses) = λ w. omega (arith, c .before .before .before .before .before .before .before .before .before .before .before .before .before .before .before .before .before .before .before .before .before .before .before .loop-test .taken, inv .7, w .setting .directory .clause-count) in (
       c .before .before .before .before .before .before .before .before .before .before .before .before .before .before .before .look .ensures .0,
-      λ w. inr (stepped-past _ _ (s .args .at .number) _ _ _ _ _ _ _ _ (clauses-next _ _ _ _ _ _ _ _ _ w _ _ _ _ (b w) (inv .8 w) _ _ _ (c .before .before .before .before .before .before .before .before .before .before .before .before .before .before .before .look .ensures .1)) (c .if1 .taken)),
+      λ w. inr (stepped-past _ (s .args .at .number) _ _ _ _ _ _ _ _ (clauses-next _ _ _ _ _ _ _ _ _ w _ _ _ _ (b w) (inv .8 w) _ _ _ (c .before .before .before .before .before .before .before .before .before .before .before .before .before .before .before .look .ensures .1)) (c .if1 .taken)),
       λ l. absurd (omega (arith, c .if1 .taken)),
       λ l. absurd (omega (arith, c .if1 .taken)),
     )
@@ -103,7 +103,7 @@ loop-again c = let s = c .before .before .before .before .before .before .before
       c .before .before .before .before .before .before .before .before .before .before .before .before .before .before .before .look .kept .1 .1 .1 .1 .1 .1 .1 .0 ∙ inv .5,
       c .before .before .before .before .before .before .before .before .before .before .before .before .before .before .before .look .ensures .0,
       inv .7,
-      λ w. stepped-within _ _ (s .args .at .number) _ _ _ _ _ _ _ _ (clauses-next _ _ _ _ _ _ _ _ _ w _ _ _ _ (b w) (inv .8 w) _ _ _ (c .before .before .before .before .before .before .before .before .before .before .before .before .before .before .before .look .ensures .1)) (c .if1 .left),
+      λ w. stepped-within _ (s .args .at .number) _ _ _ _ _ _ _ _ (clauses-next _ _ _ _ _ _ _ _ _ w _ _ _ _ (b w) (inv .8 w) _ _ _ (c .before .before .before .before .before .before .before .before .before .before .before .before .before .before .before .look .ensures .1)) (c .if1 .left),
       c .before .before .before .before .before .before .before .before .before .before .before .before .before .before .before .look .kept .1 .1 .1 .1 .1 .1 .1 .1 .0 ∙ inv .9,
       c .before .before .before .before .before .before .before .before .before .before .before .before .before .before .before .look .ensures .2 (c .if1 .left),
       c .before .before .before .before .before .before .before .before .before .before .before .before .before .before .before .look .ensures .3 (c .if1 .left),

@@ -26,7 +26,7 @@ same-length-3 c = c .before .before .before .before .before .before .before .sol
 
 returns : tie.Need-returns
 returns c = λ a.
-    inr (stepped-past _ _ (c .before .before .before .before .before .before .before .before .before .before .before .before .before .before .before .before .before .args .at .number) _ _ _ _ _ _ _ _ (c .before .before .before .before .before .before .before .solve-set .ensures (a .to) (a .shape-sets) (a .known-for)) (c .if2 .taken))
+    inr (stepped-past _ (c .before .before .before .before .before .before .before .before .before .before .before .before .before .before .before .before .before .args .at .number) _ _ _ _ _ _ _ _ (c .before .before .before .before .before .before .before .solve-set .ensures (a .to) (a .shape-sets) (a .known-for)) (c .if2 .taken))
 
 known : (c : tie.Joined1)
     → (length (c .if1 .solved) ≡ setWords)
@@ -37,7 +37,7 @@ known c =
     ⊎-elim
     (λ z. rw (z .12, z .13, z .14, z .15) (
       z .4 .kept .1 .1 .1 .1 .1 .1 .1 .1 .1 .1 .1 .1 .0 ∙ size,
-      λ a. stepped-within _ _ _ _ _ _ _ _ _ _ _ (known-step a _ _ _ _ _ _ _ (z .4 .ensures (a .to) (a .shape-sets) (a .known-for))) (z .11 .left),
+      λ a. stepped-within _ _ _ _ _ _ _ _ _ _ (known-step a _ _ _ _ _ _ _ (z .4 .ensures (a .to) (a .shape-sets) (a .known-for))) (z .11 .left),
     ))
     (λ z. rw (z .1, z .2, z .3, z .4) (size, λ a. known-none a _ _ _ _ writable (z .0 .left)))
     (c .if1 .came)
