@@ -1,3 +1,5 @@
 // The analysis: the rows of the rounds put in order and written as the table.
+#![tactic(auto)]
+
 pub mod analyse;
 pub mod unpack;

@@ -1,4 +1,6 @@
 // Cases on standard input: a line of numbers each.
+#![tactic(auto)]
+
 pub mod fields;
 pub mod files;
 

@@ -1,4 +1,6 @@
 // A clause in a round: the combinations with a row of the last round, place by place, and its end.
+#![tactic(auto)]
+
 pub mod clauses;
 pub mod ending;
 mod kept;

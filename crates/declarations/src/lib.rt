@@ -1,4 +1,6 @@
 // Declaration lines, and what the answer for a line is.
+#![tactic(auto)]
+
 pub mod declaration;
 mod declare;
 mod fields;

@@ -1,4 +1,6 @@
 // The directory of an accepted program: where everything stands. Its parts but the shapes are filled here.
+#![tactic(auto)]
+
 mod goal;
 pub mod layout;
 pub mod lists;

@@ -1,4 +1,6 @@
 // Passes marks on hand-chosen sets, and writes each resulting mask on a line. A set's bit v is A's variable v, its bit 16 + v is B's.
+#![tactic(auto)]
+
 use libc::STDOUT_FILENO;
 use marks::pass::pass_on;
 use marks::rows::{kept, renumber, together};

@@ -1,5 +1,7 @@
 // Reads a scenario text on standard input and prints the listing of its mode table, or one line `refused`, number, place. A write that fails is
 // said on standard error.
+#![tactic(auto)]
+
 use libc::{STDIN_FILENO, STDOUT_FILENO};
 use printing::print::print;
 

@@ -1,4 +1,6 @@
 // The encoded program.
+#![tactic(auto)]
+
 mod atoms;
 mod cells;
 pub mod limits;

@@ -1,5 +1,7 @@
 // Reads encoded programs from standard input, one to a line, and writes the reply to each, number and place; behind an accepted one its shapes,
 // each with the number of its variables and its cells.
+#![tactic(auto)]
+
 ghost use Rattle.std.specs.Prelude.{◌<◌, ◌≡◌, length};
 ghost use Rattle.program.specs.Limits.{max_shapes};
 ghost use Rattle.program.specs.Program.{Program};

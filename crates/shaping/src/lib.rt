@@ -1,4 +1,6 @@
 // The shapes of an accepted program, and with them its whole directory.
+#![tactic(auto)]
+
 mod naming;
 mod shapes;
 

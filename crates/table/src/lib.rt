@@ -1,1 +1,2 @@
 // The mode table: rules, rounds, the least set.
+#![tactic(auto)]

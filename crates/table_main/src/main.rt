@@ -1,5 +1,7 @@
 // Reads cases from standard input, one to a line: the length of the table in words, then the words of an encoded program.
 // Writes the reply to each, number, place and count, then the rows, then how many of the words behind them are not 0.
+#![tactic(auto)]
+
 ghost use Rattle.std.specs.Prelude.{◌≤◌};
 
 use analysis::analyse::analyse;

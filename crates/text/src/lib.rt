@@ -1,4 +1,6 @@
 // Tokens, names, numbers and lines of scenario texts.
+#![tactic(auto)]
+
 pub mod bytes;
 pub mod cut;
 pub mod name;

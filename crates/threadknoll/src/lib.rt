@@ -1,4 +1,6 @@
 // The library for the engine: the public functions under C names. `include/threadknoll.h` says in plain words what each promises.
+#![tactic(auto)]
+
 ghost use Rattle.std.specs.Prelude.{◌≡◌, ◌*◌, length};
 ghost use Rattle.program.specs.Limits.{max_words, max_bytes, max_rows};
 ghost use Rattle.text.specs.Name.{name_bytes, max_names};

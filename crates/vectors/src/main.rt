@@ -1,5 +1,7 @@
 // Tries the sample texts of the data folder, whose names stand on standard input, one a line: prints the name of each with what the reader
 // replies to it, what is read, and whether the whole path prints what is expected. Before them, a text with bad bytes; last, how many agree.
+#![tactic(auto)]
+
 mod bad_bytes;
 mod reading;
 mod samples;

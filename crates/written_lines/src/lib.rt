@@ -1,4 +1,6 @@
 // The lines of a scenario text, written token by token.
+#![tactic(auto)]
+
 pub mod atoms;
 pub mod lines;
 mod tokens;
