@@ -3,13 +3,12 @@ use Prim.Native.Nat.{ℕ, ◌*◌, ◌≤◌, ◌<◌}
 use mathlib.Core.Path.{◌≡◌, refl, sym, ap, ◌∙◌}
 use mathlib.Core.List.{List, []}
 use native.Mathlib.Omega.{arith}
-use lib.ListN.{length, take}
+use lib.ListN.{length}
 use mathlib.Core.Bool.{Bool, true, false, cond}
 use lib.Dec.{ltb}
 use borrow.Author.Tests.{lt-ltb, le-ltb, ltb-false}
 use Rattle.program.specs.Limits.{max_words, max_bytes}
 use Rattle.program.specs.Reply.{too_long, no_room, refused, done}
-use Rattle.program.specs.declared.reply.Reply.{Reply}
 use Rattle.text.specs.Room.{in_room}
 use Rattle.text.specs.Name.{name_bytes, max_names}
 use Rattle.text.specs.Line.{parts, line_feed}
@@ -18,8 +17,7 @@ use Rattle.reader.specs.declared.all_lines.Found.TheVariants.{Fault, Done}
 use Rattle.cells.specs.TextSoFar.{Read, wrong, right, next, nothing, Scenario}
 use Rattle.text_lines.specs.Lines.{all_lines}
 use Rattle.reader.specs.Found.{FoundAs, roomed}
-use Rattle.reader.specs.Read.{counted, read_of, in_rooms, answer_of, reply_of, read_left}
-use Rattle.reader.proofs.Hands.{front_is}
+use Rattle.reader.specs.Read.{counted, read_of, in_rooms, reply_of, read_left}
 
 pub too_long_law : (text : List ℕ) → max_bytes < length text → read_of text ≡ wrong too_long max_bytes
 unfolding read_of
