@@ -1,0 +1,15 @@
+-- `written_lines::lines::put_clause` meets its contract: the keyword, the atoms, LF. Assumes nothing.
+use native.Mathlib.Omega.{arith}
+use Rattle.directory.proofs.ClauseWalk.{clause_within}
+use Rattle.text.proofs.Puts.{put_append}
+use Rattle.written_lines.proofs.ClauseWalk.{clause_atoms}
+use Rattle.written_lines.proofs.lines.put_clause.Goals as goal
+
+pub put_atoms-walked-requires : goal.put_atoms-walked-requires
+put_atoms-walked-requires c = let h = clause_within _ _ _ _ c.requires.0 in
+    (clause_atoms _ _ _ _ c.requires.0 c.wide-count.result c.wide-count.ensures.0, c.requires.1, omega arith)
+
+pub returns : goal.returns
+returns c = λ a.
+    let w = c.put_atoms-walked.ensures (clause_atoms _ _ _ _ a c.wide-count.result c.wide-count.ensures.0) in
+    record { to_come = w.to_come; within = w.within; put = put_append (put_append c.put_bytes-word.ensures w.put) c.put_byte-end.ensures }
