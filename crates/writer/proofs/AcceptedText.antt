@@ -75,4 +75,4 @@ module _ (words : List ℕ) (a : Accepted words) (p f n : ℕ) (p-is : p ≡ get
       ++ (clause_lines names (length predicates) program.clauses
       ++ line query (atom_tokens names (length predicates) (modes_of (after 0 program.goal) program.grounded) (enc program.goal))))
       ≡ text_of program names
-  text_said names = rw (predicates_said, functions_said)
+  text_said names = cc (predicates_said, functions_said)
