@@ -136,10 +136,10 @@ module _ (t : TextSoFar) (text : List ℕ) (read : ReadSoFar t text) (some : 0 <
 
   goal_written : text_of read_program t.names ≡ text ++ line query ss
   goal_written =
-      let tokens : ss ≡ atom_tokens t.names (length read.program.predicates) r.modes (enc g.is)
-      = g.tokens ∙ ap (λ (n : ℕ). atom_tokens t.names n r.modes (enc g.is)) (predicates_counted t.names read.program read.so) in
-      rw modes_back
-      (sym (ap₂ (λ (x : List ℕ) (y : List (List ℕ)). x ++ line query y) read.so.written tokens ∙ text_behind sections [] _))
+      let tokens : ss ≡ atom_tokens t.names (length read.program.predicates) (modes_of (after 0 g.is) (mask_of r.modes)) (enc g.is)
+      = g.tokens ∙ ap (λ (n : ℕ). atom_tokens t.names n r.modes (enc g.is)) (predicates_counted t.names read.program read.so)
+      ∙ ap (λ (ms : List ℕ). atom_tokens t.names (length read.program.predicates) ms (enc g.is)) (sym modes_back) in
+      sym (ap₂ (λ (x : List ℕ) (y : List (List ℕ)). x ++ line query y) read.so.written tokens ∙ text_behind sections [] _)
 
   program_read : ReadProgram (with_goal t r) (text ++ line query ss)
   program_read =
