@@ -1,0 +1,15 @@
+-- `mark_shape` meets its contract. The invariant: the marks of the call rows from the link on are in the set. The measure is the link. Assumes nothing.
+use Prim.Native.Nat.{◌-◌}
+use native.Mathlib.Omega.{arith}
+use borrow.Author.Rules.{rules}
+use mathlib.Core.Path.{◌≡◌, refl, ◌∙◌}
+use lib.ListN.{length}
+use Rattle.calling.specs.Calls.{MarkAsked}
+use Rattle.calling.proofs.MarkWalks.{Marking, marking_begins, marking_there, marking_nearer, marking_on, marking_ends}
+use Rattle.calling.proofs.calls.mark_shape.Given as goal
+
+abbrev pub invariant-loop-link : goal.invariant-loop-link
+invariant-loop-link l = (length l.found ≡ length l.initial.found) × ((a : MarkAsked l.table l.sets l.newest l.here l.there l.since) → Marking a l.initial.found l.link l.found)
+
+abbrev pub decreases-loop-link : goal.decreases-loop-link
+decreases-loop-link l = l.link
