@@ -1,0 +1,9 @@
+-- `noted_set` meets its contract: a set is its two words. Assumes nothing.
+use Rattle.std.proofs.Common.{rules}
+use native.Mathlib.Omega.{arith}
+use borrow.Author.Rules.{rules}
+use Rattle.terms.proofs.BytesPut.{set_is}
+use Rattle.terms.proofs.bytes.noted_set.Goals as goal
+
+pub returns : goal.returns
+returns c = omega (arith, set_is c.args.bytes.now c.args.i)

@@ -1,0 +1,16 @@
+-- `union_of` meets its contract: the first cell's variable adds its set. The measure is the run's length.
+-- Assumes nothing.
+use Rattle.std.proofs.Common.{rules}
+use native.Mathlib.Omega.{arith}
+use borrow.Author.Rules.{rules}
+use lib.ListN.{length}
+use Rattle.terms.proofs.Walks.{union_none, union_function, union_variable, cells_behind, behind_shorter}
+use Prim.Native.Nat.{ℕ, ◌<◌}
+use Rattle.terms.proofs.walk.+union_of.Goals as goal
+
+pub returns : goal.returns
+returns t c = let R = c.args.run.now in
+    let h : 0 < length R = omega (arith, c.if-run-eq0.false) in
+    rw c.wide.ensures.0 (union_variable R c.args.base
+    c.args.sets.now c.union_of-later.result h
+    c.if-cell-lt-FIRST_VARIABLE.false c.union_of-later.ensures)
