@@ -14,5 +14,5 @@ unify_terms-requires c = let P = c.args.predicates.now in
 pub returns : goal.returns
 returns c = let P = c.args.predicates.now in let F = c.args.functions.now in let a = c.args.a.now in let b = c.args.b.now in let w = c.requires in
     λ A B ea eb kA kB. atoms_answer P F a b A B ea eb kA kB c.if-predicate-b.false c.unify_terms.result
-    c.unify_terms.new.1.1.1.1.1.1.0 c.unify_terms.new.1.1.1.1.1.1.1.0
+    c.unify_terms.new.places c.unify_terms.new.sets
     (rw (c.wide-arity.ensures.0, c.wide.ensures.0) at c.unify_terms.ensures)
