@@ -16,12 +16,7 @@ fn writes_again(text: &[u8], words: &[u16], names: &[u8]) -> bool {
     &room[..end] == text
 }
 
-fn print_accepted(
-    rt: &impl Print,
-    text: &[u8],
-    words: &[u16],
-    names: &[u8],
-) -> io::Result<()> {
+fn print_accepted(rt: &impl Print, text: &[u8], words: &[u16], names: &[u8]) -> io::Result<()> {
     rt.write_all(b"\taccepted")?;
     print_field(rt, words.len())?;
     print_same(rt, writes_again(text, words, names))?;
