@@ -29,7 +29,7 @@ fn set(name: &str) -> String {
     std::env::var(name).unwrap_or_else(|_| panic!("cargo sets {name}"))
 }
 
-/// `rt staticlib` compiles for x86-64 alone. An archive of other sources than these would be measured unseen.
+/// `../lib` compiles for x86-64 alone. An archive of other sources than these would be measured unseen.
 fn link_archive(usual: PathBuf, sources_changed: SystemTime) {
     println!("cargo::rustc-check-cfg=cfg(archive)");
     if set("CARGO_CFG_TARGET_ARCH") != "x86_64" {
@@ -47,7 +47,7 @@ fn link_archive(usual: PathBuf, sources_changed: SystemTime) {
         return;
     };
     if made < sources_changed {
-        println!("cargo::warning=the archive is older than the sources: `rt staticlib threadknoll` makes it again");
+        println!("cargo::warning=the archive is older than the sources: `../lib` makes it again");
     }
     println!("cargo::rustc-cfg=archive");
     println!("cargo::rustc-link-search=native={}", folder.display());

@@ -26,7 +26,7 @@ pub fn needed(list: &str, top: &str) -> Result<Vec<Crate>, String> {
     Ok(crates.into_iter().filter(|c| wanted.contains(&c.name)).collect())
 }
 
-/// A line for each crate, `NAME: DEP DEP ..`; `#` starts a comment.
+/// A line for each crate, `NAME: DEP DEP ..`, with its kind behind the name where it is no library that others name; `#` starts a comment.
 fn listed(list: &str) -> Result<Vec<Crate>, String> {
     let mut crates = Vec::new();
     for line in list.lines().map(|line| line.split('#').next().unwrap_or("").trim()) {
@@ -34,8 +34,9 @@ fn listed(list: &str) -> Result<Vec<Crate>, String> {
             continue;
         }
         let (name, depends_on) = line.split_once(':').ok_or_else(|| format!("`{line}`: no line of a crate"))?;
+        let name = name.split_whitespace().next().unwrap_or("");
         let depends_on = depends_on.split_whitespace().map(str::to_string).collect();
-        crates.push(Crate { name: name.trim().to_string(), depends_on });
+        crates.push(Crate { name: name.to_string(), depends_on });
     }
     Ok(crates)
 }
@@ -44,12 +45,13 @@ fn listed(list: &str) -> Result<Vec<Crate>, String> {
 mod tests {
     use super::needed;
 
-    const LIST: &str = "# lowest first\na:\nb: a   # above\nother: a io\ntop: b\n";
+    const LIST: &str = "# lowest first\na:\nb: a   # above\nother: a io\ntop: b\ntop_c staticlib: top\n";
 
     #[test]
     fn only_what_is_needed_in_the_order_of_the_list() {
         let names: Vec<String> = needed(LIST, "top").unwrap().into_iter().map(|c| c.name).collect();
         assert_eq!(names, ["a", "b", "top"]);
+        assert_eq!(needed(LIST, "top_c").unwrap().len(), 4);
     }
 
     #[test]

@@ -1,4 +1,4 @@
-//! A Rattle text as Rust: contracts and `ghost use` left out, paths between crates led through one module. Lines keep their numbers.
+//! A Rattle text as Rust: contracts, `ghost use` and what is said to the check left out, paths between crates led through one module. Lines keep their numbers.
 //!
 //! Whatever stands outside contracts and has no form that is known here is refused, and what this lets pass is then held against Rust's own rules.
 
@@ -30,12 +30,7 @@ impl Translator<'_> {
             (Kind::Other, sign) => Err(self.fault(&format!("`{sign}` outside a contract"))),
             (Kind::Word, "ghost") => self.ghost(),
             (Kind::Word, "requires" | "ensures") => self.contract(),
-            (Kind::Word, "extern") => self.exported(),
-            (Kind::Word, "struct" | "enum") => {
-                self.derive_copy();
-                self.copy();
-                Ok(())
-            }
+            (Kind::Word, "extern") => Err(self.fault("`extern`")),
             (Kind::Word, _) if self.starts_path() => self.path(),
             (Kind::Sign, "#") => self.attribute(),
             _ => {
@@ -119,30 +114,34 @@ impl Translator<'_> {
         }
     }
 
-    /// `pub extern "C" fn` is `pub fn` here: Rust calls it, and the archive has the C name.
-    fn exported(&mut self) -> Result<(), String> {
-        if self.before() != "pub" || self.ahead(1) != "\"C\"" || self.ahead(2) != "fn" {
-            return Err(self.fault("`extern` that exports no function"));
+    /// `#![tactic(auto)]` and `#[cycle(NAME)]` are said to the check alone; `Drop` is no derive of Rust. No other attribute is known.
+    fn attribute(&mut self) -> Result<(), String> {
+        let opens = if self.ahead(1) == "!" { 2 } else { 1 };
+        if self.ahead(opens) != "[" {
+            return Err(self.fault("`#` with no attribute"));
         }
-        self.leave_out_through("\"C\"")
+        match self.ahead(opens + 1) {
+            "tactic" | "cycle" => self.leave_out_through("]"),
+            "derive" => self.derive(),
+            _ => Err(self.fault("an attribute that is not known")),
+        }
     }
 
-    /// `#[no_mangle]` is left out for the same reason; no other attribute is known.
-    fn attribute(&mut self) -> Result<(), String> {
-        if [self.ahead(1), self.ahead(2), self.ahead(3)] != ["[", "no_mangle", "]"] {
-            return Err(self.fault("an attribute that is not known"));
+    /// `#[derive(A, B)]` without `Drop`.
+    fn derive(&mut self) -> Result<(), String> {
+        let mut derived = Vec::new();
+        let mut at = 4;
+        while !matches!(self.ahead(at), ")" | "") {
+            match self.ahead(at) {
+                "," | "Drop" => {}
+                name => derived.push(name.to_string()),
+            }
+            at += 1;
+        }
+        if !derived.is_empty() {
+            self.out.push_str(&format!("#[derive({})]", derived.join(", ")));
         }
         self.leave_out_through("]")
-    }
-
-    /// "Plain data is `Copy` with no `derive`."
-    fn derive_copy(&mut self) {
-        const DERIVE: &str = "#[derive(Clone, Copy)] ";
-        let at = match self.before() {
-            "pub" => self.out.rfind("pub").expect("it was put"),
-            _ => self.out.len(),
-        };
-        self.out.insert_str(at, DERIVE);
     }
 
     /// Whether a path of several parts begins here.
@@ -205,37 +204,39 @@ mod tests {
     #[test]
     fn contracts_are_left_out_and_lines_stay() {
         is(
-            "fn f(x: u8)\n    requires { ⌜ {x' : ℕ} → b' ≡ \"{\" ⌝ }\n    ensures goes { λ r.\n ⌜ r ⌝ }\n{\n}\n",
+            "fn f(x: u8)\n    requires { {x' : ℕ} → b' ≡ \"{\" }\n    ensures goes { All (λ r. r) x.now\n × P result }\n{\n}\n",
             "fn f(x: u8)\n    \n    \n\n{\n}\n",
         );
-        is("ghost use lib.Dec.{T, _≡_};\n// λ\nconst A: u8 = b'{';\n", "\n// λ\nconst A: u8 = b'{';\n");
+        is("ghost use Rattle.std.specs.Prelude.{T, ◌≡◌};\n// λ\nconst A: u8 = b'{';\n", "\n// λ\nconst A: u8 = b'{';\n");
     }
 
     #[test]
     fn paths_lead_to_the_crates() {
         is("use terms::walk::wide;", "use crate::native::terms::walk::wide;");
+        is("use terms::walk::{has, wide};", "use crate::native::terms::walk::{has, wide};");
         is("x = crate::meet::meet(y);", "x = crate::native::steps::meet::meet(y);");
         is("m = Step::End; n = u16::count_ones(terms);", "m = Step::End; n = u16::count_ones(terms);");
         is("a = std::num::wrapping_add_u32(b, c);", "a = u32::wrapping_add(b, c);");
     }
 
     #[test]
-    fn plain_data_is_copied_and_c_names_go() {
-        is("pub struct P {\n}", "#[derive(Clone, Copy)] pub struct P {\n}");
-        is("enum E {}", "#[derive(Clone, Copy)] enum E {}");
-        is("#[no_mangle]\npub extern \"C\" fn f() {}", "\npub  fn f() {}");
+    fn what_is_said_to_the_check_is_left_out() {
+        is("#![tactic(auto)]\n#[tactic(auto, using(a, b))]\n#[cycle(f_g)]\nfn f() {}", "\n\n\nfn f() {}");
+        is("#[derive(Drop)]\npub struct P {\n}", "\npub struct P {\n}");
+        is("#[derive(Clone, Copy)]\nenum E {}", "#[derive(Clone, Copy)]\nenum E {}");
+        is("#[derive(Debug, Drop)] enum E {}", "#[derive(Debug)] enum E {}");
     }
 
     #[test]
     fn what_is_not_known_is_refused() {
         is_refused("fn f()\n{\n λ }", "line 3: `λ` outside a contract");
-        is_refused("fn f()\n    requires { ⌜ { ⌝ }\n{\n}", "not closed");
+        is_refused("fn f()\n    requires { { }\n{\n}", "not closed");
         is_refused("fn f()\n    ensures { a } }\n{\n}", "`}` behind a contract");
         is_refused("fn f() requires x;", "no braces");
         is_refused("ghost fn f();", "no `use`");
         is_refused("ghost use a", "no `;`");
         is_refused("#[inline]\nfn f() {}", "an attribute");
-        is_refused("extern \"C\" { fn f(); }", "exports no function");
+        is_refused("pub extern \"C\" fn f() {}", "`extern`");
         is_refused("x = std::num::nearest_u64_to_f64(y);", "`std`");
         is_refused("x = super::y;", "a path from `super`");
         is_refused("/* x */", "outside a contract");

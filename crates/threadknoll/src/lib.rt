@@ -1,4 +1,5 @@
-// The library for the engine: the public functions under C names. `include/threadknoll.h` says in plain words what each promises.
+// The library for the engine: the public functions, each with its reply as C is told it. `threadknoll_c` exports them to C, and
+// `include/threadknoll.h` says in plain words what each promises.
 #![tactic(auto)]
 
 ghost use Rattle.std.specs.Prelude.{◌≡◌, ◌*◌, length};
@@ -28,40 +29,35 @@ fn tell(reply: Reply, place: &mut usize, count: &mut usize) -> u16
 }
 
 // "At most 40,960 bytes."
-#[unsafe(no_mangle)]
-pub extern "C" fn threadknoll_max_text() -> usize
+pub fn threadknoll_max_text() -> usize
     ensures { result ≡ max_bytes }
 {
     MAX_BYTES
 }
 
 // "at most 2,048" words
-#[unsafe(no_mangle)]
-pub extern "C" fn threadknoll_max_words() -> usize
+pub fn threadknoll_max_words() -> usize
     ensures { result ≡ max_words }
 {
     MAX_WORDS
 }
 
 // "Each name is kept as 16 bytes": of 64 predicates and 64 functions
-#[unsafe(no_mangle)]
-pub extern "C" fn threadknoll_max_names() -> usize
+pub fn threadknoll_max_names() -> usize
     ensures { result ≡ max_names * name_bytes }
 {
     2 * MAX_DECLARED * NAME_BYTES
 }
 
 // "but at most 4,096" rows
-#[unsafe(no_mangle)]
-pub extern "C" fn threadknoll_max_rows() -> usize
+pub fn threadknoll_max_rows() -> usize
     ensures { result ≡ max_rows }
 {
     MAX_ROWS
 }
 
 // From a scenario text to an encoded program with its names.
-#[unsafe(no_mangle)]
-pub extern "C" fn threadknoll_read(
+pub fn threadknoll_read(
     text: &[u8],
     words: &mut [u16],
     names: &mut [u8],
@@ -74,8 +70,7 @@ pub extern "C" fn threadknoll_read(
 }
 
 // From an encoded program with its names back to the text.
-#[unsafe(no_mangle)]
-pub extern "C" fn threadknoll_write(
+pub fn threadknoll_write(
     words: &[u16],
     names: &[u8],
     text: &mut [u8],
@@ -88,8 +83,7 @@ pub extern "C" fn threadknoll_write(
 }
 
 // The mode table of an encoded program.
-#[unsafe(no_mangle)]
-pub extern "C" fn threadknoll_analyse(
+pub fn threadknoll_analyse(
     words: &[u16],
     table: &mut [u16],
     place: &mut usize,
@@ -101,8 +95,7 @@ pub extern "C" fn threadknoll_analyse(
 }
 
 // The mode table of an encoded program with its names, and its listing.
-#[unsafe(no_mangle)]
-pub extern "C" fn threadknoll_list(
+pub fn threadknoll_list(
     words: &[u16],
     names: &[u8],
     table: &mut [u16],
