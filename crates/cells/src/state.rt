@@ -1,7 +1,7 @@
 // How far a text and a line were read, in numbers; the lists stand in lent room.
 
 // The symbols and clauses so far, and the next word.
-#[derive(Drop)]
+#[derive(Clone, Copy)]
 pub struct Counts {
     pub predicates: usize,
     pub functions: usize,
@@ -10,7 +10,7 @@ pub struct Counts {
 }
 
 // The line so far, and the next word.
-#[derive(Drop)]
+#[derive(Clone, Copy)]
 pub struct Progress {
     pub wanted: usize,
     pub cells: usize,

@@ -20,7 +20,7 @@ use steps::unifiers::meet_noted;
 use terms::walk::{narrow, wide};
 
 // Where the head of a clause stands, its variables, the clause's body atoms first..end, and how many variables the first has.
-#[derive(Drop)]
+#[derive(Clone, Copy)]
 struct Head {
     start: usize,
     cells: usize,

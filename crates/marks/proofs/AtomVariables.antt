@@ -2,7 +2,7 @@
 use Prim.Native.Nat.{ℕ, suc, ◌^◌, ◌<◌}
 use native.Mathlib.Omega.{arith}
 use mathlib.Core.Logic.{inl, inr}
-use mathlib.Core.List.{List, ◌∷◌}
+use mathlib.Core.List.{[], List, ◌∷◌}
 use Rattle.terms.specs.Term.{Terms, app}
 use Rattle.terms.specs.Cells.{variables, encs, Keepss}
 use Rattle.terms.specs.Walk.{InRun, Cells, Present}
@@ -12,6 +12,7 @@ use Rattle.marks.specs.Passing.{VariablesOf}
 
 -- "v is at most 15"
 pub in_run_small : (cells : List ℕ) (v : ℕ) → Cells cells → InRun v cells → v < variables
+in_run_small [] v small x'' = elim x'' [ ]
 in_run_small (c ∷ cs) v small (inl e) = let l = small 0 (omega arith) in omega arith
 in_run_small (c ∷ cs) v small (inr o) = in_run_small cs v (λ i l. small (suc i) (omega arith)) o
 

@@ -4,7 +4,7 @@ use native.Mathlib.Omega.{arith}
 use mathlib.Core.Path.{◌≡◌, refl, sym, ◌∙◌}
 use mathlib.Core.Logic.{◌⊎◌, inl, inr}
 use mathlib.Core.List.Memᴰ
-use mathlib.Core.List.{List, ◌∷◌, Memᴰ}
+use mathlib.Core.List.{[], List, ◌∷◌, Memᴰ}
 use lib.ListN.{length}
 
 -- a list that has a, without it: one shorter, and it has every other element that it had
@@ -14,6 +14,7 @@ pub record Without {A : Type 0} (a : A) (l : List A) : Type 0 where
   pub has : (b : A) → (b ≡ a → ⊥) → Memᴰ b l → Memᴰ b rest
 
 pub without : {A : Type 0} (a : A) (l : List A) → Memᴰ a l → Without a l
+without {A = A} a [] x' = elim x' [ ]
 without {A} a (c ∷ l) (Memᴰ.head e) = record { rest = l; shorter = refl; has = λ b ne h. other b ne (Memᴰ.cases_cons h) }
   where
     other : (b : A) → (b ≡ a → ⊥) → (b ≡ c) ⊎ Memᴰ b l → Memᴰ b l

@@ -27,6 +27,7 @@ nth_map f here = here
 nth_map f (there n) = there (nth_map f n)
 
 pub map_nth : {A B : Type 0} (f : A → B) (l : List A) (i : ℕ) (b : B) → Nth (map f l) i b → (a : A) × Nth l i a × (b ≡ f a)
+map_nth {A = A} {B = B} f [] i b n = elim n [ ]
 map_nth f (x ∷ l) zero b n = (x, here, nth_first n)
 map_nth f (x ∷ l) (suc i) b n = let r = map_nth f l i b (nth_later n) in (r.0, there r.1, r.2)
 
@@ -76,6 +77,7 @@ module _ {A : Type 0} (same : Discrete A) where
 
   -- the place of what stands in the list is one where it stands
   pub place_stands : (a : A) (l : List A) (i : ℕ) → Nth l i a → Nth l (place same a l) a
+  place_stands a [] i n = elim n [ ]
   place_stands a (b ∷ l) i n = by i n (same a b) (λ j m. place_stands a l j m)
     where
       by : (i : ℕ) → Nth (b ∷ l) i a → Dec (a ≡ b) → ((j : ℕ) → Nth l j a → Nth l (place same a l) a) → Nth (b ∷ l) (place same a (b ∷ l)) a

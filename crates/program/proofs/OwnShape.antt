@@ -15,6 +15,7 @@ use Rattle.program.proofs.ShapeLaws.{met_has}
 module _ {A : Type 0} (same : Discrete A) where
   -- an element that is there is not put behind the list again
   pub with_old : (l : List A) (a : A) → Memᴰ a l → with same l a ≡ l
+  with_old [] a m = elim m [ ]
   with_old (b ∷ l) a m = go (with_old l a) (Memᴰ.cases_cons m) (same a b)
     where
       go : (Memᴰ a l → with same l a ≡ l) → (a ≡ b) ⊎ Memᴰ a l → (d : Dec (a ≡ b)) → elim d as (λ _. List A) [ yes _ ↦ b ∷ l | no _ ↦ b ∷ with same l a ] ≡ b ∷ l
@@ -36,6 +37,7 @@ module _ {A : Type 0} (same : Discrete A) where
 
   -- the place of an element is found in the first list that has it
   pub place_old : (l r : List A) (a : A) → Memᴰ a l → place same a (l ++ r) ≡ place same a l
+  place_old [] r a m = elim m [ ]
   place_old (b ∷ l) r a m = go (place_old l r a) (Memᴰ.cases_cons m) (same a b)
     where
       go : (Memᴰ a l → place same a (l ++ r) ≡ place same a l) → (a ≡ b) ⊎ Memᴰ a l → (d : Dec (a ≡ b))
@@ -66,6 +68,7 @@ length_up_to zero = refl
 length_up_to (suc n) = let h = length_up_to n in rw (length-append (up_to n) (n ∷ [])) (omega arith)
 
 pub has_up_to : (n v : ℕ) → Memᴰ v (up_to n) → v < n
+has_up_to zero v m = elim m [ ]
 has_up_to (suc n) v m = go (has_up_to n v) (Memᴰ.append_cases (up_to n) m)
   where
     go : (Memᴰ v (up_to n) → v < n) → Memᴰ v (up_to n) ⊎ Memᴰ v (n ∷ []) → v < suc n

@@ -28,6 +28,7 @@ nth_get_d d (there h) = nth_get_d d h
 module _ {A : Type 0} (same : Discrete A) where
   -- what is in a list stands at its place
   pub place_nth : (a : A) (l : List A) → Memᴰ a l → Nth l (place same a l) a
+  place_nth a [] m = elim m [ ]
   place_nth a (b ∷ l) m = at (place_nth a l) (Memᴰ.cases_cons m) (same a b)
     where
       at : (Memᴰ a l → Nth l (place same a l) a) → (a ≡ b) ⊎ Memᴰ a l → (d : Dec (a ≡ b))
@@ -38,6 +39,7 @@ module _ {A : Type 0} (same : Discrete A) where
 
   -- a list keeps what it has when one more is put behind it
   pub with_keeps : (l : List A) (a b : A) → Memᴰ b l → Memᴰ b (with same l a)
+  with_keeps [] a b m = elim m [ ]
   with_keeps (c ∷ l) a b m = at (with_keeps l a b) (Memᴰ.cases_cons m) (same a c)
     where
       at : (Memᴰ b l → Memᴰ b (with same l a)) → (b ≡ c) ⊎ Memᴰ b l → (d : Dec (a ≡ c))
@@ -155,6 +157,7 @@ distinct_keeps [] seen t m = m
 distinct_keeps (u ∷ ts) seen t m = distinct_keeps ts (with same_term seen u) t (with_keeps same_term seen u t m)
 
 pub distinct_has : (ts seen : List Term) (t : Term) → Memᴰ t ts → Memᴰ t (distinct seen ts)
+distinct_has [] seen t m = elim m [ ]
 distinct_has (u ∷ ts) seen t m = at (distinct_has ts (with same_term seen u) t) (Memᴰ.cases_cons m)
   where
     at : (Memᴰ t ts → Memᴰ t (distinct seen (u ∷ ts))) → (t ≡ u) ⊎ Memᴰ t ts → Memᴰ t (distinct seen (u ∷ ts))
@@ -162,6 +165,7 @@ distinct_has (u ∷ ts) seen t m = at (distinct_has ts (with same_term seen u) t
     at below (inr m') = below m'
 
 pub bodies_has : (cs : List Clause) {k i : ℕ} {c : Clause} {A : Term} → Nth cs k c → Nth c.body i A → Memᴰ A (bodies cs)
+bodies_has [] {k = k} {i = i} {c = c} {A = A} x'' a = elim x'' [ ]
 bodies_has (c ∷ cs) here a = Memᴰ.append_left (bodies cs) (nth_member a)
 bodies_has (d ∷ cs) (there h) a = Memᴰ.append_right d.body (bodies_has cs h a)
 
@@ -181,6 +185,7 @@ distinct_first (u ∷ ts) seen t h = distinct_first ts (with same_term seen u) t
     behind b l (no _) = here
 
     at : (l : List Term) → Nth l 0 t → Nth (with same_term l u) 0 t
+    at [] x'' = elim x'' [ ]
     at (b ∷ l) here = behind b l (same_term u b)
 
 pub goal_shape : (p : Program) → Nth (shapes p) 0 (shape_of p.goal)

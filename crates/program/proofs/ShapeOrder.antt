@@ -21,6 +21,7 @@ distinct_distinct [] seen d = d
 distinct_distinct (t ∷ ts) seen d = distinct_distinct ts (with same_term seen t) (with_distinct same_term seen t d)
 
 pub distinct_complete : (ts seen : List Term) (j : ℕ) (t : Term) → Nth ts j t → Somewhere (distinct seen ts) t
+distinct_complete [] seen j t n = elim n [ ]
 distinct_complete (x ∷ ts) seen zero t n =
     let w = with_stands same_term seen x in
     (w.0, rw (nth_first n) (distinct_keeps ts (with same_term seen x) w.0 x w.1))

@@ -21,7 +21,7 @@ pub const SOLUTIONS: usize = CONTS + MAX_SHAPES;
 pub const SLOTS: usize = SOLUTIONS + MAX_SHAPES;
 
 // A round: its number, how many rows there were before the last round and before this one, and the room in rows.
-#[derive(Drop)]
+#[derive(Clone, Copy)]
 pub struct Round {
     pub number: u16,
     pub since: usize,

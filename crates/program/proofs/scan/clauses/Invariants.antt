@@ -1,0 +1,21 @@
+-- `clauses` meets its contract. The loop's invariant: an answer for what is left is the answer for the whole. The measure is how many clauses are left.
+-- Assumes nothing.
+use Prim.Native.Nat.{◌≤◌}
+use native.Mathlib.Omega.{arith}
+use borrow.Author.Rules.{rules}
+use lib.ListN.{length, drop}
+use Rattle.program.specs.declared.part.Part.{Part}
+use Rattle.program.specs.declared.part.Part.TheVariants.{Fault, Next}
+use Rattle.program.specs.Reading.{several}
+use Rattle.program.specs.Faults.{clause}
+use Rattle.program.specs.Part.{Meets, none}
+use Rattle.program.proofs.Parts.{meets_inside, several_none, several_fault, several_next}
+use Rattle.program.proofs.scan.clauses.Given as goal
+
+abbrev pub invariant-loop-left : goal.invariant-loop-left
+invariant-loop-left l = (l.at.at ≤ length l.words)
+    × ((r : Part) → Meets l.words none r (several (clause l.predicates l.functions) l.left (drop l.at.at l.words))
+    → Meets l.words none r (several (clause l.predicates l.functions) l.initial.left (drop l.initial.at.at l.words)))
+
+abbrev pub decreases-loop-left : goal.decreases-loop-left
+decreases-loop-left l = l.left
