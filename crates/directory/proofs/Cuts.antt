@@ -45,5 +45,6 @@ nth_take here = refl
 nth_take {l = b ∷ l} (there h) = ap (◌∷◌ b) (nth_take h)
 
 pub each_nth : {A : Type 0} {P : A → Type 0} {l : List A} {n : ℕ} {a : A} → Each P l → Nth l n a → P a
+each_nth {A = A} {P = P} {n = n} {a = a} Rattle.program.specs.Within.none x3 = elim x3 [ ]
 each_nth (more p ps) here = p
 each_nth (more p ps) (there h) = each_nth ps h
