@@ -79,6 +79,8 @@ abbrev leg : Term → Term → Term
 leg s t = two 1 s t
 
 pub zero_in : (p v : ℕ) → Occ v (two p b (var 0)) → v ≡ 0
+zero_in p v (inl x') = elim x' [ ]
+zero_in p v (inr (inr x3)) = elim x3 [ ]
 zero_in p v (inr (inl o)) = o
 
 -- the goals in progress
@@ -99,6 +101,7 @@ unfolding ℕ_discrete
 step_1 = put up first_binding here (up_fresh _ goal_0 seen) first_binding_finite refl
   where
     seen : (v : ℕ) → InSight v goal_0 → v ≡ 0
+    seen v (inr x') = elim x' [ ]
     seen v (inl o) = zero_in 0 v o
 
 pub step_2 : Step legs goal_1 goal_2
@@ -106,6 +109,7 @@ step_2 = put up second_binding (there (there here)) (up_fresh _ goal_1 seen) sec
   where
     seen : (v : ℕ) → InSight v goal_1 → v ≡ 0
     seen v (inl o) = zero_in 1 v o
+    seen v (inr (inr x'')) = elim x'' [ ]
     seen v (inr (inl o)) = zero_in 0 v o
 
 -- the second step's substitution is not most general: no substitution takes `strange` back to a variable

@@ -37,6 +37,7 @@ Every [] = Unit {0}
 Every (row ∷ rows) = MarksFirst row × Every rows
 
 pub every_row : (rows : List (Row ℕ)) → Every rows → (row : Row ℕ) → Memᴰ row rows → MarksFirst row
+every_row [] all row x'' = elim x'' [ ]
 every_row (r ∷ rows) all row (Memᴰ.head e) = rw e all.0
 every_row (r ∷ rows) all row (Memᴰ.tail m) = every_row rows all.1 row m
 

@@ -38,6 +38,7 @@ member_nth {l = b ∷ l} (Memᴰ.tail m) = let (n, h) = member_nth m in (suc n, 
 
 -- the place of what stands at n and nowhere before
 pub place_first : {A : Type 0} (same : Discrete A) (l : List A) (a : A) (n : ℕ) → Nth l n a → ((r : ℕ) (b : A) → Nth l r b → r < n → b ≡ a → ⊥) → place same a l ≡ n
+place_first {A = A} same [] a n x'' f = elim x'' [ ]
 place_first same (b ∷ l) a zero here f = by (same a a)
   where
     by : (d : Dec (a ≡ a)) → elim d as (λ _. ℕ) [ yes _ ↦ zero | no _ ↦ suc (place same a l) ] ≡ zero

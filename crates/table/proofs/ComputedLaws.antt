@@ -23,12 +23,16 @@ module _ {Mark B : Type 0} (rows : List (Row Mark)) where
   has_on_call f {b} m = let (row, h, m') = has_each rows (on_call f) m in split row h m'
     where
       split : (row : Row Mark) → Memᴰ row rows → Memᴰ b (on_call f row) → (s : ℕ) × (M : Mark) × Memᴰ (call s M) rows × Memᴰ b (f s M)
+      split (cont _ _ _) h m' = elim m' [ ]
+      split (solution _ _) h m' = elim m' [ ]
       split (call s M) h m' = (s, M, h, m')
 
   pub has_on_solution : (f : ℕ → Mark → List B) {b : B} → Memᴰ b (each rows (on_solution f)) → (s : ℕ) × (M : Mark) × Memᴰ (solution s M) rows × Memᴰ b (f s M)
   has_on_solution f {b} m = let (row, h, m') = has_each rows (on_solution f) m in split row h m'
     where
       split : (row : Row Mark) → Memᴰ row rows → Memᴰ b (on_solution f row) → (s : ℕ) × (M : Mark) × Memᴰ (solution s M) rows × Memᴰ b (f s M)
+      split (call _ _) h m' = elim m' [ ]
+      split (cont _ _ _) h m' = elim m' [ ]
       split (solution s M) h m' = (s, M, h, m')
 
   pub has_on_cont : (f : ℕ → ℕ → Mark → List B) {b : B} → Memᴰ b (each rows (on_cont f))
@@ -37,6 +41,10 @@ module _ {Mark B : Type 0} (rows : List (Row Mark)) where
     where
       split : (row : Row Mark) → Memᴰ row rows → Memᴰ b (on_cont f row)
           → (k : ℕ) × (i : ℕ) × (M : Mark) × Memᴰ (cont (suc k) (suc i) M) rows × Memᴰ b (f k i M)
+      split (call _ _) h m' = elim m' [ ]
+      split (cont (suc k) Prim.Native.Nat.zero M) h m' = elim m' [ ]
+      split (cont Prim.Native.Nat.zero _ M) h m' = elim m' [ ]
+      split (solution _ _) h m' = elim m' [ ]
       split (cont (suc k) (suc i) M) h m' = (k, i, M, h, m')
 
 module _ (D : Domain) (lists : Lists D) (p : Program) (rows : List (Row D.Mark)) where
@@ -122,6 +130,7 @@ module _ (D : Domain) (lists : Lists D) (p : Program) (rows : List (Row D.Mark))
     where
       ended : (c : Clause) → Nth p.clauses a.k c → (d : Dec (a.i ≡ length c.body))
           → Memᴰ row (elim d as (λ _. List (Row D.Mark)) [ yes _ ↦ ends D lists p rows a.marks c | no _ ↦ [] ]) → Gives D p Of row
+      ended c hc (no _) m' = elim m' [ ]
       ended c hc (yes e) m' = ends_gives a.k a.marks c row hc (rw e at reached) m'
 
       which : (c : Clause) → Nth p.clauses a.k c

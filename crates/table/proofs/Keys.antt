@@ -23,11 +23,13 @@ behind d cs k i = rw length-append (omega arith)
 
 -- the body atoms of the clauses before clause k, and i more: body atom i of clause k
 pub body_nth : (cs : List Clause) {k i : ℕ} {c : Clause} {A : Term} → Nth cs k c → Nth c.body i A → Nth (bodies cs) (length (bodies (take k cs)) + i) A
+body_nth [] {k = k} {i = i} {c = c} {A = A} x'' hA = elim x'' [ ]
 body_nth (c ∷ cs) {i = i} here hA = let e : 0 + i ≡ i = omega arith in rw e (nth_left (bodies cs) hA)
 body_nth (d ∷ cs) {i = i} (there {n = k} hc) hA = rw (behind d cs k i) (nth_right d.body (body_nth cs hc hA))
 
 -- the body atoms of a clause stand before those of later clauses
 pub earlier_clause : (cs : List Clause) {k : ℕ} {c : Clause} → Nth cs k c → (k' i : ℕ) → k < k' → i < length c.body → length (bodies (take k cs)) + i < length (bodies (take k' cs))
+earlier_clause [] {k = k} {c = c} x3 _ i h l = elim x3 [ ]
 earlier_clause (c ∷ cs) here (suc k') i h l = rw length-append (omega arith)
 earlier_clause (c ∷ cs) here zero i h l = absurd (omega arith)
 earlier_clause (d ∷ cs) (there hc) zero i h l = absurd (omega arith)
@@ -51,10 +53,12 @@ module _ (d : Clause) (cs : List Clause) (j : ℕ) where
 
 -- a body atom's clause and place are read back from its number
 pub clause_at_law : (cs : List Clause) {k : ℕ} {c : Clause} → Nth cs k c → (i : ℕ) → i < length c.body → clause_at cs (length (bodies (take k cs)) + i) ≡ k
+clause_at_law [] {k = k} {c = c} x'' i l = elim x'' [ ]
 clause_at_law (c ∷ cs) here i l = clause_first_law c cs (0 + i) (omega arith)
 clause_at_law (d ∷ cs) (there {n = k} hc) i l = rw (behind d cs k i, clause_behind d cs (length (bodies (take k cs)) + i), clause_at_law cs hc i l)
 
 pub place_at_law : (cs : List Clause) {k : ℕ} {c : Clause} → Nth cs k c → (i : ℕ) → i < length c.body → place_at cs (length (bodies (take k cs)) + i) ≡ i
+place_at_law [] {k = k} {c = c} x'' i l = elim x'' [ ]
 place_at_law (c ∷ cs) here i l = place_first c cs (0 + i) (omega arith) ∙ omega arith
 place_at_law (d ∷ cs) (there {n = k} hc) i l = rw (behind d cs k i, place_behind d cs (length (bodies (take k cs)) + i), place_at_law cs hc i l)
 

@@ -14,10 +14,12 @@ each [] f = []
 each (a ∷ l) f = f a ++ each l f
 
 pub each_has : {A B : Type 0} (l : List A) (f : A → List B) {a : A} {b : B} → Memᴰ a l → Memᴰ b (f a) → Memᴰ b (each l f)
+each_has {A = A} {B = B} [] f {a = a} {b = b} x'' m = elim x'' [ ]
 each_has (c ∷ l) f (Memᴰ.head e) m = Memᴰ.append_left (each l f) (rw e at m)
 each_has (c ∷ l) f (Memᴰ.tail h) m = Memᴰ.append_right (f c) (each_has l f h m)
 
 pub has_each : {A B : Type 0} (l : List A) (f : A → List B) {b : B} → Memᴰ b (each l f) → (a : A) × Memᴰ a l × Memᴰ b (f a)
+has_each {A = A} {B = B} [] f {b = b} m = elim m [ ]
 has_each {A} {B} (c ∷ l) f {b} m = at (has_each l f) (Memᴰ.append_cases (f c) m)
   where
     at : (Memᴰ b (each l f) → (a : A) × Memᴰ a l × Memᴰ b (f a)) → Memᴰ b (f c) ⊎ Memᴰ b (each l f)
@@ -26,6 +28,7 @@ has_each {A} {B} (c ∷ l) f {b} m = at (has_each l f) (Memᴰ.append_cases (f c
     at below (inr m') = let (a, h, m'') = below m' in (a, Memᴰ.tail h, m'')
 
 pub has_map : {A B : Type 0} (f : A → B) (l : List A) {b : B} → Memᴰ b (map f l) → (a : A) × Memᴰ a l × (b ≡ f a)
+has_map {A = A} {B = B} f [] {b = b} x' = elim x' [ ]
 has_map f (c ∷ l) (Memᴰ.head e) = (c, Memᴰ.head refl, e)
 has_map f (c ∷ l) (Memᴰ.tail m) = let (a, h, e) = has_map f l m in (a, Memᴰ.tail h, e)
 
@@ -40,6 +43,8 @@ at_has here = Memᴰ.head refl
 at_has (there h) = at_has h
 
 pub has_at : {A : Type 0} (l : List A) (n : ℕ) {a : A} → Memᴰ a (at l n) → Nth l n a
+has_at {A = A} (b ∷ l) zero {a = a} (Memᴰ.tail x7) = elim x7 [ ]
+has_at {A = A} [] n {a = a} m = elim m [ ]
 has_at (b ∷ l) zero (Memᴰ.head e) = rw e here
 has_at (b ∷ l) (suc n) m = there (has_at l n m)
 
@@ -63,6 +68,7 @@ module _ {A : Type 0} (same : Discrete A) where
   behind_keeps (b ∷ new) l a m = behind_keeps new (with same l b) a (with_keeps same l b a m)
 
   pub behind_has : (new l : List A) (a : A) → Memᴰ a new → Memᴰ a (behind same l new)
+  behind_has [] l a x' = elim x' [ ]
   behind_has (b ∷ new) l a (Memᴰ.head e) = behind_keeps new (with same l b) a (rw e (with_has same l b))
   behind_has (b ∷ new) l a (Memᴰ.tail m) = behind_has new (with same l b) a m
 

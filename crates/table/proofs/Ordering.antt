@@ -12,12 +12,17 @@ use Rattle.program.specs.Lists.{Distinct}
 
 -- no list of words stands before one that stands before it, so none before itself
 pub before_once : (vs ws : List ℕ) → Before vs ws → Before ws vs → ⊥
+before_once (v ∷ vs) [] x5 _ = elim x5 [ ]
+before_once [] ws x'' _ = elim x'' [ ]
 before_once (v ∷ vs) (w ∷ ws) (inl l) (inl m) = omega arith
 before_once (v ∷ vs) (w ∷ ws) (inl l) (inr (e, h)) = omega arith
 before_once (v ∷ vs) (w ∷ ws) (inr (e, h)) (inl m) = omega arith
 before_once (v ∷ vs) (w ∷ ws) (inr (e, h)) (inr (e', h')) = before_once vs ws h h'
 
 pub before_trans : (us vs ws : List ℕ) → Before us vs → Before vs ws → Before us ws
+before_trans (u ∷ us) (v ∷ vs) [] _ x9 = elim x9 [ ]
+before_trans (u ∷ us) [] ws x5 _ = elim x5 [ ]
+before_trans [] vs ws x'' _ = elim x'' [ ]
 before_trans (u ∷ us) (v ∷ vs) (w ∷ ws) (inl a) (inl b) = inl (omega arith)
 before_trans (u ∷ us) (v ∷ vs) (w ∷ ws) (inl a) (inr (e, b)) = inl (omega arith)
 before_trans (u ∷ us) (v ∷ vs) (w ∷ ws) (inr (d, a)) (inl b) = inl (omega arith)

@@ -24,10 +24,12 @@ use Rattle.table.proofs.Lists.{has_map}
 use Rattle.table.proofs.Distinct.{distinct_length}
 
 pub each_member : {A : Type 0} {P : A → Type 0} {l : List A} {a : A} → Each P l → Memᴰ a l → P a
+each_member {A = A} {P = P} {a = a} Rattle.program.specs.Within.none m = elim m [ ]
 each_member {P = P} {a = a} (more h hs) m = ⊎_elim (λ (e : _). rw e h) (each_member hs) (Memᴰ.cases_cons m)
 
 -- "v is at most 15", in the atoms of a clause
 pub atoms_variables : {ps fs : List ℕ} (ts : List Term) → Each (Atom ps fs) ts → (v : ℕ) → In v ts → v < variables
+atoms_variables {ps = ps} {fs = fs} [] _ v x3 = elim x3 [ ]
 atoms_variables (t ∷ ts) (more a as') v (inl o) = atom_variables a v o
 atoms_variables (t ∷ ts) (more a as') v (inr o) = atoms_variables ts as' v o
 

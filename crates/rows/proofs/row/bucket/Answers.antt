@@ -1,0 +1,11 @@
+-- `bucket` meets its contract: the product fits 64 bits. Assumes nothing.
+use Rattle.std.proofs.Common.{rules}
+use native.Mathlib.Omega.{arith}
+use mathlib.Core.Path.{refl}
+use Rattle.rows.specs.Rows.{bucket_of}
+use borrow.Author.Rules.{rules}
+use Rattle.rows.proofs.row.bucket.Goals as goal
+
+pub returns : goal.returns
+unfolding bucket_of
+returns c = (rw (c.wide.ensures.0, c.wide-2.ensures.0) refl, omega arith)

@@ -1,0 +1,15 @@
+-- `clear` meets its contract: the words passed are 0, the others as they were. The measure is how many are left. Assumes nothing.
+use native.Mathlib.Omega.{arith}
+use borrow.Author.Rules.{rules}
+use borrow.Author.Fill.{fill_more}
+use Prim.Native.Nat.{◌≤◌, ◌-◌}
+use mathlib.Core.Path.{◌≡◌, refl, ◌∙◌, ap}
+use mathlib.Core.List.{◌++◌}
+use lib.ListN.{length, replicate, drop, length-set}
+use Rattle.rows.proofs.zeros.clear.Given as goal
+
+abbrev pub invariant-loop-i : goal.invariant-loop-i
+invariant-loop-i l = (l.i ≤ l.count) × (l.words ≡ replicate l.i 0 ++ drop l.i l.initial.words) × (length l.words ≡ length l.initial.words)
+
+abbrev pub decreases-loop-i : goal.decreases-loop-i
+decreases-loop-i l = l.count - l.i

@@ -1,0 +1,22 @@
+-- `shapes` meets its contract. The invariant: the atoms passed have their shapes' numbers. The measure is what is left of them.
+-- Assumes nothing.
+use Prim.Native.Nat.{◌-◌, ◌≤◌, ◌<◌}
+use native.Mathlib.Omega.{arith}
+use borrow.Author.Rules.{rules}
+use mathlib.Core.Path.{◌≡◌, sym, ◌∙◌}
+use mathlib.Core.Logic.{⊎_elim}
+use lib.ListN.{length, length-set}
+use Rattle.program.specs.Program.{bodies}
+use Rattle.directory.specs.Layout.{shape_count, body_count}
+use Rattle.directory.specs.Said.{said}
+use Rattle.directory.specs.Walked.{Placed}
+use Rattle.shaping.specs.Named.{ShapesFound}
+use Rattle.directory.proofs.PlacedLaws.{bodies_at_most}
+use Rattle.shaping.proofs.ShapesWalk.{found_placed, body_asked, answer_few, counted_new, counted_old, body_found, all_named, found_own, named_after}
+use Rattle.shaping.proofs.naming.shapes.Given as goal
+
+abbrev pub invariant-loop-j : goal.invariant-loop-j
+invariant-loop-j l = (l.total ≡ length (bodies (said l.words).clauses)) × (l.j ≤ l.total) × Placed l.words (said l.words) l.initial.dir × ShapesFound (said l.words) l.initial.dir l.dir l.j l.count
+
+abbrev pub decreases-loop-j : goal.decreases-loop-j
+decreases-loop-j l = l.total - l.j
