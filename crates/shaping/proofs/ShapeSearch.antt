@@ -32,7 +32,8 @@ atom_injective P F A B a b e =
     let t : encs a.arguments ≡ encs b.arguments = cc in
     a.is ∙ ap₂ (λ (f : ℕ) (ts : Terms). app f ts) h (encs_injective F a.arguments b.arguments a.keeps b.keeps t) ∙ sym b.is
 
-pub member_nth : {A : Type 0} {l : List A} {a : A} → Memᴰ a l → (n : ℕ) × Nth l n a
+pub member_nth : {A : Type 0} {a : A} {l : List A} → Memᴰ a l → (n : ℕ) × Nth l n a
+member_nth {A = A} {a = a} {l = []} x'' = elim x'' [ ]
 member_nth {l = b ∷ l} (Memᴰ.head e) = (0, rw e here)
 member_nth {l = b ∷ l} (Memᴰ.tail m) = let (n, h) = member_nth m in (suc n, there h)
 

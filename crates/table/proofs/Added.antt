@@ -1,5 +1,5 @@
 -- An algebra of what is added to the keys kept: nothing, one key, one step after another, and a step that finds the room full.
-use Prim.Native.Nat.{ℕ, ◌+◌}
+use Prim.Native.Nat.{ℕ}
 use mathlib.Core.Path.{◌≡◌, refl, sym, ap, ◌∙◌}
 use mathlib.Core.Logic.{◌⊎◌, inl, inr, ⊎_elim, ◌↔◌}
 use mathlib.Core.List.Memᴰ

@@ -1,7 +1,7 @@
 -- The rounds, computed: the rows of each round as a list, over marks whose results can be listed. `ComputedLaws` shows that these are the rounds.
 use Prim.Native.Nat.{ℕ, zero, suc}
 use native.Mathlib.Decide.{ℕ_discrete}
-use mathlib.Core.List.{List, [], ◌∷◌, ◌++◌, map, Memᴰ}
+use mathlib.Core.List.{List, [], ◌++◌, map, Memᴰ}
 use mathlib.Core.Logic.{◌↔◌}
 use lib.ListN.{length}
 use Rattle.terms.specs.Term.{Term}

@@ -1,14 +1,11 @@
 -- `link` meets its contract: each turn puts one row more into the chain of its slot. The measure is how many rows are left. Assumes nothing.
-use Rattle.std.proofs.Common.{rules}
 use Rattle.program.specs.Limits.{row_size}
 use Rattle.rows.specs.Rows.{slot_at}
 use lib.ListN.{get_or}
-use Rattle.rows.proofs.Linking.{linked_none, linked_more, befores_slot}
-use Rattle.rows.specs.Linked.{Linked}
+use Rattle.rows.proofs.Linking.{linked_more, befores_slot}
 use lib.ListN.{length, length-set}
-use mathlib.Core.Path.{◌≡◌, refl, ◌∙◌}
-use Prim.Native.Nat.{◌+◌, ◌*◌, ◌-◌, ◌≤◌, ◌<◌}
-use borrow.Author.Rules.{rules}
+use mathlib.Core.Path.{◌≡◌, ◌∙◌}
+use Prim.Native.Nat.{◌+◌, ◌*◌, ◌<◌}
 use native.Mathlib.Omega.{arith}
 use Rattle.rows.proofs.chain.link.Goals as goal
 

@@ -1,6 +1,4 @@
 -- `keep_mask` meets its contract: the bit is put in, and no other is touched. Assumes nothing.
-use Rattle.std.proofs.Common.{rules}
-use borrow.Author.Rules.{rules}
 use Prim.Native.Nat.{◌*◌}
 use Rattle.rows.proofs.KeptWords.{mask_kept}
 use Rattle.rows.proofs.keptset.keep_mask.Goals as goal

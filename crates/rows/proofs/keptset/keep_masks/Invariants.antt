@@ -1,9 +1,6 @@
 -- `keep_masks` meets its contract: the words passed have what is found besides. The measure is how many are left. Assumes nothing.
 use Prim.Native.Nat.{◌-◌, ◌≤◌}
-use native.Mathlib.Omega.{arith}
-use borrow.Author.Rules.{rules}
-use mathlib.Core.Path.{◌≡◌}
-use Rattle.rows.proofs.KeptWords.{Beside, beside_none, beside_one, beside_all}
+use Rattle.rows.proofs.KeptWords.{Beside}
 use Rattle.rows.proofs.keptset.keep_masks.Given as goal
 
 abbrev pub invariant-loop-i : goal.invariant-loop-i

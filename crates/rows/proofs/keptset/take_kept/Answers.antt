@@ -1,11 +1,8 @@
 -- `take_kept` meets its contract: the words passed are without what is kept. The measure is how many are left. Assumes nothing.
-use Rattle.std.proofs.Common.{rules}
-use Prim.Native.Nat.{◌-◌, ◌≤◌}
 use native.Mathlib.Omega.{arith}
-use borrow.Author.Rules.{rules}
 use mathlib.Core.Path.{◌≡◌}
 use lib.Dec.{lt→ltb}
-use Rattle.rows.proofs.KeptWords.{Without, without_none, without_one, without_all, without_told}
+use Rattle.rows.proofs.KeptWords.{without_one, without_all, without_told}
 use Rattle.rows.proofs.keptset.take_kept.Goals as goal
 
 pub loop-i-preserved : goal.loop-i-preserved

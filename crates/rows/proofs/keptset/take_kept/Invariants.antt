@@ -1,10 +1,6 @@
 -- `take_kept` meets its contract: the words passed are without what is kept. The measure is how many are left. Assumes nothing.
 use Prim.Native.Nat.{◌-◌, ◌≤◌}
-use native.Mathlib.Omega.{arith}
-use borrow.Author.Rules.{rules}
-use mathlib.Core.Path.{◌≡◌}
-use lib.Dec.{lt→ltb}
-use Rattle.rows.proofs.KeptWords.{Without, without_none, without_one, without_all, without_told}
+use Rattle.rows.proofs.KeptWords.{Without}
 use Rattle.rows.proofs.keptset.take_kept.Given as goal
 
 abbrev pub invariant-loop-i : goal.invariant-loop-i

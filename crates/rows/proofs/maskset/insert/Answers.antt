@@ -1,9 +1,7 @@
 -- `insert` meets its contract: the bit was there, or it is put in. Assumes nothing.
-use Rattle.std.proofs.Common.{rules}
-use Rattle.rows.proofs.MaskSets.{inserted_new, inserted_there}
+use Rattle.rows.proofs.MaskSets.{inserted_new}
 use lib.Dec.{T}
 use native.Mathlib.Omega.{arith}
-use borrow.Author.Rules.{rules}
 use Rattle.rows.proofs.maskset.insert.Goals as goal
 
 pub returns : goal.returns

@@ -1,9 +1,7 @@
 -- `bucket` meets its contract: the product fits 64 bits. Assumes nothing.
-use Rattle.std.proofs.Common.{rules}
 use native.Mathlib.Omega.{arith}
 use mathlib.Core.Path.{refl}
 use Rattle.rows.specs.Rows.{bucket_of}
-use borrow.Author.Rules.{rules}
 use Rattle.rows.proofs.row.bucket.Goals as goal
 
 pub returns : goal.returns

@@ -1,14 +1,12 @@
 -- `add` meets its contract: the key was found, or its row is written behind the others, or there is no room for it. Assumes nothing.
-use Rattle.std.proofs.Common.{rules}
 use Rattle.rows.proofs.Adding.{row_added}
-use Rattle.rows.specs.Store.{there, new, full}
+use Rattle.rows.specs.Store.{new}
 use Rattle.rows.specs.Rows.{key_of, keys_of}
 use lib.Dec.{T}
 use mathlib.Core.List.{Memᴰ}
-use mathlib.Core.Path.{◌≡◌, refl}
+use mathlib.Core.Path.{refl}
 use Prim.Native.Nat.{◌<◌}
 use native.Mathlib.Omega.{arith}
-use borrow.Author.Rules.{rules}
 use Rattle.rows.proofs.store.add.Goals as goal
 
 pub returns-then-count-room : goal.returns-then-count-room

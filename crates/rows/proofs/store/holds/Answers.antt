@@ -1,12 +1,9 @@
 -- `holds` meets its contract: no row that the walk along the bucket has passed has the key. The measure is the link, which falls to an earlier row.
 -- Assumes nothing.
-use Rattle.std.proofs.Common.{rules}
-use lib.Dec.{T}
 use mathlib.Core.Path.{◌≡◌}
 use Prim.Native.Nat.{◌-◌}
 use native.Mathlib.Omega.{arith}
-use borrow.Author.Rules.{rules}
-use Rattle.rows.proofs.Finding.{Looked, looked_begins, looked_at, row_within, looked_goes_on, next_falls, looked_ends, found_there}
+use Rattle.rows.proofs.Finding.{looked_at, looked_ends, found_there}
 use Rattle.rows.proofs.store.holds.Goals as goal
 
 pub returns-then-is_at : goal.returns-then-is_at

@@ -1,11 +1,8 @@
 -- `clear` meets its contract: the words passed are 0, the others as they were. The measure is how many are left. Assumes nothing.
-use native.Mathlib.Omega.{arith}
-use borrow.Author.Rules.{rules}
-use borrow.Author.Fill.{fill_more}
 use Prim.Native.Nat.{◌≤◌, ◌-◌}
-use mathlib.Core.Path.{◌≡◌, refl, ◌∙◌, ap}
+use mathlib.Core.Path.{◌≡◌}
 use mathlib.Core.List.{◌++◌}
-use lib.ListN.{length, replicate, drop, length-set}
+use lib.ListN.{length, replicate, drop}
 use Rattle.rows.proofs.zeros.clear.Given as goal
 
 abbrev pub invariant-loop-i : goal.invariant-loop-i

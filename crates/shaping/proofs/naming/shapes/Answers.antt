@@ -19,7 +19,7 @@ use Rattle.shaping.proofs.naming.shapes.Goals.{else-s-count, then-s-count}
 
 pub loop-j-init : goal.loop-j-init
 loop-j-init c = let W = c.args.words.now in let f = c.goal_shape.ensures in
-    (c.wide-total.ensures.0 ∙ f.kept body_count (omega arith) ∙ c.requires.1.body-count, omega arith, found_placed W c.requires.0 _ _ c.requires.1 _ _ f, found_own _ _ _ _ _ f)
+    (c.wide-total.ensures.0 ∙ f.kept body_count (omega arith) ∙ c.requires.1.body_count_law, omega arith, found_placed W c.requires.0 _ _ c.requires.1 _ _ f, found_own _ _ _ _ _ f)
 
 pub bounds-dir-j : goal.bounds-dir-j
 bounds-dir-j c = omega (arith, c.loop-j.invariant.0, c.loop-j-test.true, bodies_at_most _ c.requires.0, c.loop-j.invariant.3.shaped.size)

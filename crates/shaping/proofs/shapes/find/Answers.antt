@@ -11,6 +11,7 @@ use Rattle.directory.specs.Layout.{shape_cells}
 use Rattle.shaping.specs.Shaped.{Sought, Seeking}
 use Rattle.shaping.proofs.ShapeSearch.{predicate_declared, seek_first, not_found, link_most, end_most, end_ordered, found, pass, longer, unlike, slot_grows}
 use Rattle.shaping.proofs.shapes.find.Goals as goal
+use Rattle.shaping.proofs.shapes.find.Goals.{then-end-start+else-same, else-end-start}
 
 pub overflow_add-s : goal.overflow_add-s
 overflow_add-s c = let a = c.requires in omega (arith, link_most _ _ _ _ a _ _ (c.loop-link.invariant a) c.loop-link-test.true)
@@ -53,10 +54,11 @@ loop-link-smaller c = let a = c.requires in omega (arith, link_most _ _ _ _ a _ 
 
 pub loop-link-preserved : goal.loop-link-preserved
 loop-link-preserved c = λ a. let w = c.loop-link.invariant a in let some = c.loop-link-test.true in rw c.wide-link-in-loop-link.ensures.0 (pass _ _ _ _ a _ _ w some
-    (⊎_elim
-    (λ o. unlike _ _ _ _ a _ _ w some (rw (c.wide-end.ensures.0, c.wide-start.ensures.0) at o.0.taken) (λ e. let t : T o.1.result = o.1.ensures.1 (rw c.wide-start.ensures.0 e) in rw o.2.left at t))
-    (λ o. longer _ _ _ _ a _ _ w some (rw (c.wide-end.ensures.0, c.wide-start.ensures.0) at o.left))
-    c.if-end-start.branch))
+    (elim c.if-end-start.branch [
+      | then-end-start+else-same o ↦ unlike _ _ _ _ a _ _ w some (rw (c.wide-end.ensures.0, c.wide-start.ensures.0) at o.if-end-start.true)
+          (λ e. let t : T o.same.result = o.same.ensures.1 (rw c.wide-start.ensures.0 e) in rw o.if-same.false at t)
+      | else-end-start o ↦ longer _ _ _ _ a _ _ w some (rw (c.wide-end.ensures.0, c.wide-start.ensures.0) at o.if-end-start.false)
+    ]))
 
 pub returns : goal.returns
 returns c = λ a. let e : c.loop-link.link ≡ 0 = omega (arith, c.loop-link-test.false) in not_found _ _ _ _ a _ _ (c.loop-link.invariant a) e

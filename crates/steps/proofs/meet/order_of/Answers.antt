@@ -1,0 +1,62 @@
+-- `order_of` meets its contract. The invariant: the variables of the cells passed are in the list by first appearance. The measure is what is
+-- left of the run. Assumes nothing.
+use Rattle.std.proofs.Common.{rules}
+use Prim.Native.Nat.{◌-◌, ◌≤◌}
+use native.Mathlib.Omega.{arith}
+use borrow.Author.Rules.{rules}
+use borrow.Author.Tests.{not-true, not-false}
+use mathlib.Core.Path.{◌≡◌}
+use mathlib.Core.Logic.{⊎_elim}
+use mathlib.Core.List.{[]}
+use lib.ListN.{length, get_or, take}
+use lib.Seq.{take_all}
+use Rattle.directory.specs.Numbers.{met_cells}
+use Rattle.directory.proofs.Numbering.{met_cells_next}
+use Rattle.steps.proofs.Appearance.{Ordered, none_ordered, ordered_few, function_ordered, old_ordered, room_left, new_ordered, run_cells, run_in_order}
+use Rattle.steps.proofs.meet.order_of.Goals as goal
+
+pub has-requires : goal.has-requires
+has-requires c = let i = c.loop-i.i in
+    let less = c.loop-i-test.true in
+    let small = run_cells _ c.requires.0 i less in
+    omega (arith, small, c.wide-v.ensures.0, c.if-cell-ge-FIRST_VARIABLE.true)
+
+pub only-met-requires : goal.only-met-requires
+only-met-requires c = let i = c.loop-i.i in
+    let less = c.loop-i-test.true in
+    let small = run_cells _ c.requires.0 i less in
+    omega (arith, small, c.wide-v.ensures.0, c.if-cell-ge-FIRST_VARIABLE.true)
+
+pub overflow_cast-order : goal.overflow_cast-order
+overflow_cast-order c = let i = c.loop-i.i in
+    let less = c.loop-i-test.true in
+    let small = run_cells _ c.requires.0 i less in
+    omega (arith, small, c.wide-v.ensures.0, c.if-cell-ge-FIRST_VARIABLE.true)
+
+pub bounds-order-count : goal.bounds-order-count
+bounds-order-count c = let R = c.args.atom.now in
+    let i = c.loop-i.i in
+    let less = c.loop-i-test.true in
+    let small = run_cells R c.requires.0 i less in
+    room_left c.loop-i.invariant.1 (get_or R i 0) c.if-cell-ge-FIRST_VARIABLE.true small (λ h. rw (not-true c.has.result c.if-not-has.true-raw) at (c.has.ensures.1 (rw c.wide-v.ensures.0 h)))
+
+pub loop-i-preserved : goal.loop-i-preserved
+loop-i-preserved c = let R = c.args.atom.now in
+    let i = c.loop-i.i in
+    let inv = c.loop-i.invariant in
+    let less = c.loop-i-test.true in
+    let small = run_cells R c.requires.0 i less in
+    ⊎_elim
+    (λ w. (omega arith, rw (w.5, w.6, w.7, w.4.ensures, w.1.ensures.0, met_cells_next R i less) (new_ordered inv.1 (get_or R i 0) w.0.taken small (λ h. rw (not-true w.2.result w.3.taken) at (w.2.ensures.1 (rw w.1.ensures.0 h))))))
+    (⊎_elim
+    (λ w. (omega arith, rw (w.4, w.5, w.6, met_cells_next R i less) (old_ordered inv.1 (get_or R i 0) w.0.taken small (rw w.1.ensures.0 at (w.2.ensures.0 (rw (not-false w.2.result w.3.left) tt))))))
+    (λ w. (omega arith, rw (w.1, w.2, w.3, met_cells_next R i less) (function_ordered inv.1 (get_or R i 0) w.0.left))))
+    c.if-cell-ge-FIRST_VARIABLE.branch
+
+pub returns : goal.returns
+returns c = let R = c.args.atom.now in let i = c.loop-i.i in
+    let e : i ≡ length R = omega (arith, c.loop-i.invariant.0, c.loop-i-test.false) in
+    let all : Ordered (met_cells [] R) c.loop-i.order c.loop-i.met c.loop-i.count =
+    rw (e, take_all (length R) R (omega arith)) at c.loop-i.invariant.1
+    in
+    (ordered_few all, run_in_order R _ _ _ all)
