@@ -130,7 +130,7 @@ fn filled<R: Read>(from: &mut R, buffer: &mut [u8], input: Input) -> io::Result<
     })
 }
 
-// Reads the next line into the words. A proved loop has to end, and nothing says that the input does: the turns are counted down.
+// Reads the next line into the words. A proved loop has to end, and nothing says that the input does: the turns are counted.
 pub fn next<R: Read>(
     from: &mut R,
     words: &mut [u16],
