@@ -16,6 +16,8 @@ import sys
 APART = {
     "In-table": "IsInTable", "all_words": "every_word", "in-set": "in_set_law", "no_cells": "no_cells_law", "no_room": "no_room_exactly",
     "one_more": "one_more_law", "place_at": "place_at_law", "row_words": "row_words_law", "too_long": "too_long_law",
+    # a tactic's name, which no definition may have
+    "ground": "grounded",
 }
 WORD = re.compile(r"[^\s(){}\[\],;.:`\"]+")
 DECLARED = re.compile(

@@ -90,7 +90,7 @@ module _ (words dir : List ℕ) (p : Program) (setting : Setting words dir p) (t
   few = within_few p (sound_within words p setting.accepted)
 
   abbrev T : Row ℕ → Type 0
-  T = At modes p p.ground complete.last
+  T = At modes p p.grounded complete.last
 
   -- each row in the new order is one of the last round
   row_there : (r : ℕ) → r < n → T (row_of p (key_at table' r)) × (row_key p (row_of p (key_at table' r)) ≡ key_at table' r)
@@ -101,7 +101,7 @@ module _ (words dir : List ℕ) (p : Program) (setting : Setting words dir p) (t
   row_regular : (r : ℕ) → r < n → Regular p (row_of p (key_at table' r))
   row_regular r l = at_regular words p setting.accepted complete.last _ (row_there r l).0
 
-  row_first : (r : ℕ) → r < n → First modes p p.ground (round_at table' r) (row_of p (key_at table' r))
+  row_first : (r : ℕ) → r < n → First modes p p.grounded (round_at table' r) (row_of p (key_at table' r))
   row_first r l =
       let from = sorted.reordered.from r in
       let f = complete.in_rounds from (sorted.reordered.from_below r l) in
@@ -133,17 +133,17 @@ module _ (words dir : List ℕ) (p : Program) (setting : Setting words dir p) (t
   rounded : Rounded p complete.last (entries_of p table' n)
   rounded e = (to, from)
     where
-      to : Memᴰ e (entries_of p table' n) → (e.round ≤ complete.last) × First modes p p.ground e.round e.row
+      to : Memᴰ e (entries_of p table' n) → (e.round ≤ complete.last) × First modes p p.grounded e.round e.row
       to m = let (r, l, d) = listed_entry p table' n e m in rw d (round_within r l, row_first r l)
 
-      from : (e.round ≤ complete.last) × First modes p p.ground e.round e.row → Memᴰ e (entries_of p table' n)
+      from : (e.round ≤ complete.last) × First modes p p.grounded e.round e.row → Memᴰ e (entries_of p table' n)
       from (l, f) =
-          let a = rounds_grow modes p p.ground complete.last e.round l e.row f.0 in
+          let a = rounds_grow modes p p.grounded complete.last e.round l e.row f.0 in
           let m = (reordered_keys table table' n sorted.reordered (row_key p e.row)).1 ((complete.keys.each (row_key p e.row)).1 (e.row, a, refl)) in
           let (r, b, k) = listed_key table' n (row_key p e.row) m in
           let row : row_of p (key_at table' r) ≡ e.row = ap (row_of p) k ∙ row_of_key p few (at_regular words p setting.accepted complete.last e.row a) in
-          let g : First modes p p.ground (round_at table' r) e.row = rw row at (row_first r b) in
-          let round : round_at table' r ≡ e.round = first_once modes p p.ground (round_at table' r) e.round e.row g f in
+          let g : First modes p p.grounded (round_at table' r) e.row = rw row at (row_first r b) in
+          let round : round_at table' r ≡ e.round = first_once modes p p.grounded (round_at table' r) e.round e.row g f in
           let same : entry_at p table' r ≡ e = (λ i. record { round = round i; row = row i }) in
           subst (λ (x : Entry). Memᴰ x (entries_of p table' n)) same (entry_listed p table' n r b)
 

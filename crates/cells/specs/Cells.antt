@@ -41,19 +41,19 @@ named_of names arities from to s = symbol_at arities from to (seek names (padded
 
 -- "a variable is above 15 or skips a number"; "a query variable is both `V` and `G`"
 abbrev pub variable_at : ℕ → List ℕ → ℕ → Bool → Look
-variable_at seen modes v ground =
+variable_at seen modes v grounded =
     cond (ltb max_variable v) (Fault bad_variable)
     (cond (ltb seen v) (Fault bad_variable)
     (cond (ltb v seen)
-    (cond (eqb (get_or modes v 0) (mode_of ground)) (Met v ground) (Fault both_modes))
-    (Met v ground)))
+    (cond (eqb (get_or modes v 0) (mode_of grounded)) (Met v grounded) (Fault both_modes))
+    (Met v grounded)))
 
 -- the first cell of an atom: a head and 16 body atoms at most; "an atom starts with no predicate"
 abbrev pub start_of : Symbols → ℕ → List ℕ → Token → Look
 start_of symbols atoms s Wrong = Fault ill_formed
 start_of symbols atoms s Name =
     cond (ltb max_body atoms) (Fault out_of_range) (named_of symbols.names symbols.arities 0 symbols.predicates s)
-start_of symbols atoms s (Variable ground v) = cond (ltb max_body atoms) (Fault out_of_range) (Fault undeclared)
+start_of symbols atoms s (Variable grounded v) = cond (ltb max_body atoms) (Fault out_of_range) (Fault undeclared)
 
 -- a cell of an argument; "an atom reaches a 33rd cell"
 abbrev pub argument_of : Symbols → Row → List ℕ → Token → Look
@@ -61,7 +61,7 @@ argument_of symbols r s Wrong = Fault ill_formed
 argument_of symbols r s Name =
     cond (leb atom_cells r.cells) (Fault long_atom)
     (named_of symbols.names symbols.arities symbols.predicates (symbols.predicates + symbols.functions) s)
-argument_of symbols r s (Variable ground v) = cond (leb atom_cells r.cells) (Fault long_atom) (variable_at r.variables r.modes v ground)
+argument_of symbols r s (Variable grounded v) = cond (leb atom_cells r.cells) (Fault long_atom) (variable_at r.variables r.modes v grounded)
 
 -- "At one place the order is 1, 11, 2, 5, 3, 4, 13."
 abbrev pub look_of : Symbols → Bool → Row → List ℕ → Look
@@ -81,20 +81,20 @@ with_symbol r word arity =
 
 -- the row with a variable's cell
 abbrev pub with_variable : Row → ℕ → Bool → Row
-with_variable r v ground =
+with_variable r v grounded =
     record {
       wanted = r.wanted - 1;
       cells = r.cells + 1;
       atoms = r.atoms;
       variables = cond (ltb v r.variables) r.variables (r.variables + 1);
-      modes = cond (ltb v r.variables) r.modes (r.modes ++ mode_of ground ∷ []);
+      modes = cond (ltb v r.variables) r.modes (r.modes ++ mode_of grounded ∷ []);
       out = r.out ++ (first_variable + v) ∷ [];
     }
 
 abbrev pub taken_at : Row → ℕ → Look → Read Row
 taken_at r at (Fault number) = wrong number at
 taken_at r at (Symbol word arity) = right (with_symbol r word arity)
-taken_at r at (Met v ground) = right (with_variable r v ground)
+taken_at r at (Met v grounded) = right (with_variable r v grounded)
 
 -- an atom is complete, and no other has begun
 abbrev pub complete : Row → Bool

@@ -92,13 +92,13 @@ fn after_variable(p: Progress, v: usize) -> Progress
 }
 
 // The mode of a variable that is met first.
-fn meet(modes: &mut [u16], seen: usize, v: usize, ground: bool)
-    ensures { modes.new ≡ cond (ltb v seen) modes.old (set modes.old seen (mode_of ground)) }
+fn meet(modes: &mut [u16], seen: usize, v: usize, grounded: bool)
+    ensures { modes.new ≡ cond (ltb v seen) modes.old (set modes.old seen (mode_of grounded)) }
 {
     if v < seen {
         return;
     }
-    put(modes, seen, mode_of(ground));
+    put(modes, seen, mode_of(grounded));
 }
 
 fn variable_cell(v: usize) -> u16
@@ -132,9 +132,9 @@ fn take(
             put(words, p.words, word);
             Taken::Next(after_symbol(p, arity))
         }
-        Look::Variable { number, ground } => {
+        Look::Variable { number, grounded } => {
             put(words, p.words, variable_cell(number));
-            meet(modes, p.variables, number, ground);
+            meet(modes, p.variables, number, grounded);
             Taken::Next(after_variable(p, number))
         }
     }

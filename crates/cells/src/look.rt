@@ -16,13 +16,13 @@ pub enum Look {
     Fault(u16),
     // a symbol's cell, and how many arguments it wants
     Symbol { word: u16, arity: u16 },
-    Variable { number: usize, ground: bool },
+    Variable { number: usize, grounded: bool },
 }
 
-pub fn mode_of(ground: bool) -> u16
-    ensures { result ≡ mode_of ground }
+pub fn mode_of(grounded: bool) -> u16
+    ensures { result ≡ mode_of grounded }
 {
-    if ground {
+    if grounded {
         return 1;
     }
     0
@@ -42,9 +42,9 @@ fn symbol_at(arities: &[u16], from: usize, to: usize, n: usize) -> Look
 }
 
 // "a variable is above 15 or skips a number"; "a query variable is both `V` and `G`"
-fn variable_at(seen: usize, modes: &[u16], v: usize, ground: bool) -> Look
+fn variable_at(seen: usize, modes: &[u16], v: usize, grounded: bool) -> Look
     requires { 15 < length modes.now }
-    ensures { result ≡ variable_at seen modes.now v ground }
+    ensures { result ≡ variable_at seen modes.now v grounded }
 {
     if MAX_VARIABLE < v {
         return Look::Fault(BAD_VARIABLE);
@@ -53,11 +53,11 @@ fn variable_at(seen: usize, modes: &[u16], v: usize, ground: bool) -> Look
         return Look::Fault(BAD_VARIABLE);
     }
     if v < seen {
-        if modes[v] != mode_of(ground) {
+        if modes[v] != mode_of(grounded) {
             return Look::Fault(BOTH_MODES);
         }
     }
-    Look::Variable { number: v, ground }
+    Look::Variable { number: v, grounded }
 }
 
 // A symbol that is declared, from number `from` on and below number `to`.
@@ -92,7 +92,7 @@ fn start_of(
             named(s, 0, c.predicates, names, hashes, arities)
         }
         Token::Variable {
-            ground: _,
+            grounded: _,
             number: _,
         } => {
             if MAX_BODY < p.atoms {
@@ -132,11 +132,11 @@ fn argument_of(
                 arities,
             )
         }
-        Token::Variable { ground, number } => {
+        Token::Variable { grounded, number } => {
             if ATOM_CELLS <= p.cells {
                 return Look::Fault(LONG_ATOM);
             }
-            variable_at(p.variables, modes, number, ground)
+            variable_at(p.variables, modes, number, grounded)
         }
     }
 }

@@ -36,7 +36,7 @@ module _ (words : List ℕ) (p : Program) (says : faults words ≡ sound p)
   table_is_least_set = accepted_least mode_analysis modes_computes (faults words) size p says reply table promised
 
   -- so the rows that stand in its words are exactly the rows of the least set
-  pub rows_in_words : reply.number ≡ accepted → (row : Row ℕ) → StandsIn reply.count table row ↔ Least modes p p.ground row
+  pub rows_in_words : reply.number ≡ accepted → (row : Row ℕ) → StandsIn reply.count table row ↔ Least modes p p.grounded row
   rows_in_words number-0 =
       let t = promise_trusted words size reply table promised number-0 in rw (sound_same _ t.says says) at t.rows
 

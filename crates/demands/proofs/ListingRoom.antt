@@ -128,7 +128,7 @@ module _ (p : Program) (within : WithinLimits p) where
   atoms_words : length (encode_atoms (p.goal ∷ bodies p.clauses)) ≤ length (encode p)
   unfolding encode
   atoms_words =
-      let end : List ℕ = after 0 p.goal ∷ modes_of (after 0 p.goal) p.ground in
+      let end : List ℕ = after 0 p.goal ∷ modes_of (after 0 p.goal) p.grounded in
       omega (
         arith,
         bodies_cells p.clauses,

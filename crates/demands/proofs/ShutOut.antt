@@ -93,7 +93,7 @@ everything_any_shut_out a =
 -- "which would satisfy demand 3's sentence by itself": over an analysis that keeps the promise, its table covers every run
 pub everything_any_covers_runs : (a : Analyser) (words lent : List ℕ) (p : Program) → faults words ≡ sound p
     → Keeps a words lent → (a words lent).reply.number ≡ accepted
-    → CoversRuns modes p p.ground (StandsIn (a words lent).reply.count (everything_any a words lent).table)
+    → CoversRuns modes p p.grounded (StandsIn (a words lent).reply.count (everything_any a words lent).table)
 everything_any_covers_runs a words lent p says keeps number-0 =
     let count = (a words lent).reply.count in
     let table = (a words lent).table in

@@ -108,7 +108,7 @@ itself = record {
   functions = 1 ∷ [];
   clauses = record { head = app 0 (cons (var 0) (cons (var 0) nil)); body = [] } ∷ [];
   goal = app 0 (cons (var 0) (cons (app 0 (cons (var 0) nil)) nil));
-  ground = 0;
+  grounded = 0;
 }
 
 itself_sound : faults itself_words ≡ sound itself
@@ -129,7 +129,7 @@ itself_leaves = listed itself _ itself_sound (computed_table_law itself 0 _ itse
 -- a goal alone, with no clause: its call is the one row
 module _ (predicates functions : List ℕ) (atom' : Term) where
   abbrev alone : Program
-  alone = record { predicates = predicates; functions = functions; clauses = []; goal = atom'; ground = 0 }
+  alone = record { predicates = predicates; functions = functions; clauses = []; goal = atom'; grounded = 0 }
 
   alone_round_1 : rows_at modes modes_lists alone 0 1 ≡ rows_at modes modes_lists alone 0 0
   unfolding ℕ_discrete modes_lists listed_decided

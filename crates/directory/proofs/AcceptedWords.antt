@@ -27,7 +27,7 @@ said_within words a = sound_within words (said words) (said_sound words a)
 
 -- the clauses and the goal
 abbrev pub goal_part : Program → List ℕ
-goal_part p = enc p.goal ++ after 0 p.goal ∷ modes_of (after 0 p.goal) p.ground
+goal_part p = enc p.goal ++ after 0 p.goal ∷ modes_of (after 0 p.goal) p.grounded
 
 pub said_words : (words : List ℕ) → Accepted words
     → length (said words).predicates ∷ length (said words).functions ∷ length (said words).clauses
@@ -84,7 +84,7 @@ module _ (words : List ℕ) (a : Accepted words) where
   goal_from at e =
       record {
         goal = p.goal;
-        ground = p.ground;
+        grounded = p.grounded;
         cut = e;
         sound = (said_within words a).goal_atom;
         numbered = (said_within words a).goal_numbered;

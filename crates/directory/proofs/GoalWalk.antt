@@ -39,7 +39,7 @@ mask_fits modes i e few =
 
 module _ (words : List ℕ) (at : ℕ) (predicates functions : List ℕ) (a : GoalFrom words at predicates functions) where
   abbrev pub goal_atom_from : AtomFrom words at predicates functions
-  goal_atom_from = record { atom = a.goal; rest = after 0 a.goal ∷ modes_of (after 0 a.goal) a.ground; cut = a.cut; sound = a.sound }
+  goal_atom_from = record { atom = a.goal; rest = after 0 a.goal ∷ modes_of (after 0 a.goal) a.grounded; cut = a.cut; sound = a.sound }
 
   -- "v is at most 15"
   pub modes_few : after 0 a.goal ≤ variables
@@ -49,7 +49,7 @@ module _ (words : List ℕ) (at : ℕ) (predicates functions : List ℕ) (a : Go
       omega arith
 
   module _ (cells : ℕ) (e : cells ≡ length (enc a.goal)) where
-    count_cut : drop (at + cells) words ≡ after 0 a.goal ∷ modes_of (after 0 a.goal) a.ground
+    count_cut : drop (at + cells) words ≡ after 0 a.goal ∷ modes_of (after 0 a.goal) a.grounded
     count_cut = rw e (cut_behind words at (enc a.goal) _ a.cut)
 
     pub count_within : at + cells < length words
@@ -58,49 +58,49 @@ module _ (words : List ℕ) (at : ℕ) (predicates functions : List ℕ) (a : Go
     pub count_is : get_or words (at + cells) 0 ≡ after 0 a.goal
     count_is = word_at words (at + cells) _ _ count_cut
 
-    modes_cut : drop (at + cells + 1) words ≡ modes_of (after 0 a.goal) a.ground
+    modes_cut : drop (at + cells + 1) words ≡ modes_of (after 0 a.goal) a.grounded
     modes_cut = word_behind words (at + cells) _ _ count_cut
 
     pub modes_within : at + cells + 1 + get_or words (at + cells) 0 ≤ length words
     modes_within =
         let q = ap length modes_cut in
         let l = count_within in
-        omega (arith, length-drop (at + cells + 1) words, modes_length (after 0 a.goal) a.ground, count_is)
+        omega (arith, length-drop (at + cells + 1) words, modes_length (after 0 a.goal) a.grounded, count_is)
 
     module _ (count : ℕ) (q : count ≡ get_or words (at + cells) 0) where
-      pub modes_are : take (at + cells + 1 + count - (at + cells + 1)) (drop (at + cells + 1) words) ≡ modes_of (after 0 a.goal) a.ground
+      pub modes_are : take (at + cells + 1 + count - (at + cells + 1)) (drop (at + cells + 1) words) ≡ modes_of (after 0 a.goal) a.grounded
       modes_are =
           middle_part words (at + cells + 1) count ∙ ap (take count) modes_cut
-          ∙ take_all count (modes_of (after 0 a.goal) a.ground) (omega (arith, modes_length (after 0 a.goal) a.ground, count_is))
+          ∙ take_all count (modes_of (after 0 a.goal) a.grounded) (omega (arith, modes_length (after 0 a.goal) a.grounded, count_is))
 
       pub modes_sound : Each (λ m. m ≤ 1) (take (at + cells + 1 + count - (at + cells + 1)) (drop (at + cells + 1) words))
-      modes_sound = rw modes_are (modes_each (after 0 a.goal) a.ground)
+      modes_sound = rw modes_are (modes_each (after 0 a.goal) a.grounded)
 
       pub modes_length_few : length (take (at + cells + 1 + count - (at + cells + 1)) (drop (at + cells + 1) words)) ≤ variables
       modes_length_few = rw (modes_are, modes_length) modes_few
 
-      module _ (before : List ℕ) (ground : ℕ) (g : ground ≡ mask_of (take (at + cells + 1 + count - (at + cells + 1)) (drop (at + cells + 1) words))) (whole : length before ≡ dir_words) where
+      module _ (before : List ℕ) (grounded : ℕ) (g : grounded ≡ mask_of (take (at + cells + 1 + count - (at + cells + 1)) (drop (at + cells + 1) words))) (whole : length before ≡ dir_words) where
         abbrev done : List ℕ
-        done = set (set (set before goal_start at) goal_cells cells) goal_ground ground
+        done = set (set (set before goal_start at) goal_cells cells) goal_ground grounded
 
-        pub goal_written : GoalWritten words a.goal a.ground before done
+        pub goal_written : GoalWritten words a.goal a.grounded before done
         goal_written =
             record {
               stands =
                   rw (
-                    get_or-set_other (set (set before goal_start at) goal_cells cells) goal_ground goal_start ground 0 (λ z. omega arith),
+                    get_or-set_other (set (set before goal_start at) goal_cells cells) goal_ground goal_start grounded 0 (λ z. omega arith),
                     get_or-set_other (set before goal_start at) goal_cells goal_start cells 0 (λ z. omega arith),
                     get_or-set_same before goal_start at 0 (omega arith),
-                    get_or-set_other (set (set before goal_start at) goal_cells cells) goal_ground goal_cells ground 0 (λ z. omega arith),
+                    get_or-set_other (set (set before goal_start at) goal_cells cells) goal_ground goal_cells grounded 0 (λ z. omega arith),
                     get_or-set_same (set before goal_start at) goal_cells cells 0 (rw length-set (omega arith)),
                     e,
                   )
                   (atom_stands words at predicates functions goal_atom_from);
               ground_is =
-                  get_or-set_same (set (set before goal_start at) goal_cells cells) goal_ground ground 0 (rw (length-set, length-set) (omega arith))
-                  ∙ g ∙ ap mask_of modes_are ∙ mask_of_modes (after 0 a.goal) a.ground a.marks;
+                  get_or-set_same (set (set before goal_start at) goal_cells cells) goal_ground grounded 0 (rw (length-set, length-set) (omega arith))
+                  ∙ g ∙ ap mask_of modes_are ∙ mask_of_modes (after 0 a.goal) a.grounded a.marks;
               kept = λ x l.
-                  get_or-set_other (set (set before goal_start at) goal_cells cells) goal_ground x ground 0 (λ z. omega arith)
+                  get_or-set_other (set (set before goal_start at) goal_cells cells) goal_ground x grounded 0 (λ z. omega arith)
                   ∙ get_or-set_other (set before goal_start at) goal_cells x cells 0 (λ z. omega arith)
                   ∙ get_or-set_other before goal_start x at 0 (λ z. omega arith);
             }

@@ -36,7 +36,7 @@ goal_comes words before dir end w =
 module _ (words : List ℕ) (a : Accepted words) (f at n : ℕ) (f-is : f ≡ predicates_start + length (said words).predicates)
     (at-is : at ≡ f + length (said words).functions) (n-is : n ≡ length (said words).clauses) (before d₁ d₂ : List ℕ) (end : ℕ) (size : length d₂ ≡ dir_words)
     (w : ClausesWritten words (said words).clauses (goal_part (said words)) before d₁ (length (said words).clauses) end)
-    (g : GoalWritten words (said words).goal (said words).ground d₁ d₂) where
+    (g : GoalWritten words (said words).goal (said words).grounded d₁ d₂) where
   abbrev p : Program
   p = said words
 

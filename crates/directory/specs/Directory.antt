@@ -57,7 +57,7 @@ pub record Directory (words : List ℕ) (p : Program) (dir : List ℕ) : Type 0 
   pub functions_are : take (get_or dir clauses_start 0 - get_or dir functions_start 0) (drop (get_or dir functions_start 0) words) ≡ p.functions
   -- the goal
   pub goal_stands : StandsAt words p.goal (get_or dir goal_start 0) (get_or dir goal_cells 0)
-  pub goal_ground_law : get_or dir goal_ground 0 ≡ p.ground
+  pub goal_ground_law : get_or dir goal_ground 0 ≡ p.grounded
   -- the clauses and their body atoms
   pub clause_count_law : get_or dir clause_count 0 ≡ length p.clauses
   pub body_count_law : get_or dir body_count 0 ≡ length (bodies p.clauses)

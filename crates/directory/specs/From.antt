@@ -38,8 +38,8 @@ pub record ClausesFrom (words : List ℕ) (at : ℕ) (predicates functions : Lis
 -- the goal's words: the atom, "its variable count k, then k modes"
 pub record GoalFrom (words : List ℕ) (at : ℕ) (predicates functions : List ℕ) : Type 0 where
   pub goal : Term
-  pub ground : ℕ
-  pub cut : drop at words ≡ enc goal ++ after 0 goal ∷ modes_of (after 0 goal) ground
+  pub grounded : ℕ
+  pub cut : drop at words ≡ enc goal ++ after 0 goal ∷ modes_of (after 0 goal) grounded
   pub sound : Atom predicates functions goal
   pub numbered : Numbered 0 goal
-  pub marks : ground < 2 ^ after 0 goal
+  pub marks : grounded < 2 ^ after 0 goal

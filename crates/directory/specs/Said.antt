@@ -6,7 +6,7 @@ use Rattle.program.specs.Faults.{Found, fault, sound, faults}
 
 -- the program found; where there is a fault, any
 abbrev pub program_in : Found Program → Program
-program_in (fault number place) = record { predicates = []; functions = []; clauses = []; goal = var 0; ground = 0 }
+program_in (fault number place) = record { predicates = []; functions = []; clauses = []; goal = var 0; grounded = 0 }
 program_in (sound p) = p
 
 abbrev pub said : List ℕ → Program

@@ -53,9 +53,9 @@ pub record ClausesWritten (words : List ℕ) (clauses : List Clause) (rest befor
   pub kept : (x : ℕ) → x < clause_head → get_or dir x 0 ≡ get_or before x 0
 
 -- the goal is written, and nothing else
-pub record GoalWritten (words : List ℕ) (goal : Term) (ground : ℕ) (before dir : List ℕ) : Type 0 where
+pub record GoalWritten (words : List ℕ) (goal : Term) (grounded : ℕ) (before dir : List ℕ) : Type 0 where
   pub stands : StandsAt words goal (get_or dir goal_start 0) (get_or dir goal_cells 0)
-  pub ground_is : get_or dir goal_ground 0 ≡ ground
+  pub ground_is : get_or dir goal_ground 0 ≡ grounded
   pub kept : (x : ℕ) → goal_ground < x → get_or dir x 0 ≡ get_or before x 0
 
 -- where everything stands in the words; the lists and the shapes are still to come
@@ -66,7 +66,7 @@ pub record Placed (words : List ℕ) (p : Program) (dir : List ℕ) : Type 0 whe
   pub predicates_are : take (get_or dir functions_start 0 - predicates_start) (drop predicates_start words) ≡ p.predicates
   pub functions_are : take (get_or dir clauses_start 0 - get_or dir functions_start 0) (drop (get_or dir functions_start 0) words) ≡ p.functions
   pub goal_stands : StandsAt words p.goal (get_or dir goal_start 0) (get_or dir goal_cells 0)
-  pub goal_ground_law : get_or dir goal_ground 0 ≡ p.ground
+  pub goal_ground_law : get_or dir goal_ground 0 ≡ p.grounded
   pub clause_count_law : get_or dir clause_count 0 ≡ length p.clauses
   pub body_count_law : get_or dir body_count 0 ≡ length (bodies p.clauses)
   pub heads : {x : ℕ} {c : Clause} → Nth p.clauses x c → HeadIn words dir c x

@@ -28,7 +28,7 @@ fn mask(modes: &[u16]) -> u16
 // "the top goal: one atom, its variable count k, then k modes"
 pub fn goal(words: &[u16], at: usize, predicates: &[u16], functions: &[u16], dir: &mut [u16])
     requires { (GoalFrom words.now at predicates.now functions.now) × (length words.now ≤ max_shape_cells) × (length dir.old ≡ dir_words) }
-    ensures { (a : GoalFrom words.now at predicates.now functions.now) → GoalWritten words.now a.goal a.ground dir.old dir.new }
+    ensures { (a : GoalFrom words.now at predicates.now functions.now) → GoalWritten words.now a.goal a.grounded dir.old dir.new }
 {
     let cells = atom_cells(words, at, predicates, functions);
     let end = at + cells;

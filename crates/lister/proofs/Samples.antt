@@ -84,7 +84,7 @@ legs_unlisted room =
 
 -- `p :- p`, goal `p`
 alone : Program
-alone = record { predicates = 0 ∷ []; functions = []; clauses = record { head = app 0 nil; body = app 0 nil ∷ [] } ∷ []; goal = app 0 nil; ground = 0 }
+alone = record { predicates = 0 ∷ []; functions = []; clauses = record { head = app 0 nil; body = app 0 nil ∷ [] } ∷ []; goal = app 0 nil; grounded = 0 }
 
 -- "`-` for none":
 -- modes 1

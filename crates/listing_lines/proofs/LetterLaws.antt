@@ -12,7 +12,7 @@ use borrow.Author.Tests.{ne_eqb}
 use native.Mathlib.Decide.{ℕ_discrete}
 use Rattle.terms.specs.Term.{Term, Terms, var, app, nil, cons, Occ, Occs}
 use Rattle.terms.specs.Cells.{variables}
-use Rattle.terms.specs.Mask.{mark_of, ground, Has, Marks}
+use Rattle.terms.specs.Mask.{mark_of, grounded, Has, Marks}
 use Rattle.terms.proofs.Masks.{has_none, has_below, same_marks}
 use Rattle.program.specs.Program.{Clause}
 use Rattle.program.specs.Shapes.{In, Listed}
@@ -57,7 +57,7 @@ is_listed_law c i v =
     (occurs_in_one_law (c.head ∷ take i c.body) v) (occurs_in_one_law (c.head ∷ drop i c.body) v)
 
 in_set_law : (set v : ℕ) → T (in_set set v) ↔ Has set v
-in_set_law set v = (eqb→eq (mark_of set v) ground, λ e. rw e tt)
+in_set_law set v = (eqb→eq (mark_of set v) grounded, λ e. rw e tt)
 
 letters_same : (has has' : ℕ → Bool) (mask n : ℕ) → ((v : ℕ) → has v ≡ has' v) → letters_below has mask n ≡ letters_below has' mask n
 letters_same has has' mask zero h = refl
@@ -71,7 +71,7 @@ set_letters test set mask h marks =
 -- "`-` for none": the empty set has no letters
 no_letters : (mask n : ℕ) → letters_below (in_set 0) mask n ≡ []
 no_letters mask zero = refl
-no_letters mask (suc n) = rw (no_letters mask n, ne_eqb (mark_of 0 n) ground (has_none n))
+no_letters mask (suc n) = rw (no_letters mask n, ne_eqb (mark_of 0 n) grounded (has_none n))
 
 pub empty_letters : (set mask : ℕ) → set ≡ 0 → letters_of (in_set set) mask ≡ dash ∷ []
 empty_letters set mask e = rw e (ap or_none (no_letters mask variables))

@@ -2,7 +2,7 @@
 use Rattle.std.specs.Prelude.{ℕ, zero, suc, Bool, false, cond, ◌&&◌, ◌||◌, List, [], ◌∷◌, ◌++◌, take, drop, eqb}
 use Rattle.terms.specs.Term.{Term, Terms, var, app, nil, cons}
 use Rattle.terms.specs.Cells.{variables}
-use Rattle.terms.specs.Mask.{mark_of, ground}
+use Rattle.terms.specs.Mask.{mark_of, grounded}
 use Rattle.program.specs.Program.{Clause}
 
 abbrev pub lower_g : ℕ
@@ -35,7 +35,7 @@ is_listed c i v = occurs_in_one (c.head ∷ take i c.body) v && occurs_in_one (c
 
 -- "A mask has bit v set where variable v is ground."
 abbrev pub letter : ℕ → ℕ → ℕ
-letter mask v = cond (eqb (mark_of mask v) ground) lower_g lower_a
+letter mask v = cond (eqb (mark_of mask v) grounded) lower_g lower_a
 
 -- a letter for each variable below n of which the test holds
 abbrev pub letters_below : (ℕ → Bool) → ℕ → ℕ → List ℕ

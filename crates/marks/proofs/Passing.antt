@@ -10,7 +10,7 @@ use Rattle.terms.specs.Unifier.{Unifies, Apart, MostGeneral}
 use Rattle.terms.proofs.Substs.{all_occ, occ_all, occ_sub, sub_occ}
 use Rattle.terms.proofs.Variables.{both_decided, decided_for, occ_decided, all_decided, some_decided, above, occ_above}
 use Rattle.terms.proofs.Pairs.{Decided, unifier_decided}
-use Rattle.terms.specs.Mask.{any, ground, mark_of, Has, Marks}
+use Rattle.terms.specs.Mask.{any, grounded, mark_of, Has, Marks}
 use Rattle.marks.specs.Pass.{Known, Marked, Pass}
 use Rattle.terms.proofs.Masks.{has_decided, mark_any_or_ground, marks_or, mask_of, mask_of_marks, same_marks}
 
@@ -45,15 +45,15 @@ pass_unique {A} {B} {M} {N} {R} {R'} p p' = same_marks R R' (λ v. (pass_more p 
 -- a unifier that is ground where the marks said so is ground where the result says so
 pub pass_sound : {A B : Term} {M N R : ℕ} → Pass A M B N R → (α' β' : Subst) → Unifies A B α' β'
     → ((x : ℕ) → Has M x → Ground (α' x)) → ((y : ℕ) → Has N y → Ground (β' y)) → (y : ℕ) → Has R y → Ground (β' y)
-pass_sound {A} {B} {M} {N} {R} p α' β' e ground ground' y h =
+pass_sound {A} {B} {M} {N} {R} p α' β' e grounded grounded' y h =
     at (marked_under M M N N (λ v b. b) (λ v b. b) p.unifier α' β' e y ((p.result y).0 h))
   where
     at : Marked A M B N α' β' y → Ground (β' y)
-    at (inl b) = ground' y b
+    at (inl b) = grounded' y b
     at (inr k) =
         occ_all (λ x. ⊥) (β' y) (λ z o.
         let known = all_occ (Known A M α') (β' y) k.1 z o in
-        all_occ (λ x. ⊥) (α' known.0) (ground known.0 known.2) z known.3)
+        all_occ (λ x. ⊥) (α' known.0) (grounded known.0 known.2) z known.3)
 
 -- the result marks variables of B, and what N marks
 pub pass_within : {A B : Term} {M N R : ℕ} → Pass A M B N R → (y : ℕ) → Has R y → Has N y ⊎ Occ y B
@@ -65,7 +65,7 @@ pass_within {A} {B} {M} {N} p y h = at ((p.result y).0 h)
 
 -- "Passing marks through a unifier cannot give a third value": in the result the mark of a variable is ground where it is marked, and any elsewhere
 pub any_or_ground : {A B : Term} {M N R : ℕ} (p : Pass A M B N R) (v : ℕ)
-    → ((mark_of R v ≡ ground) × Marked A M B N p.α p.β v) ⊎ ((mark_of R v ≡ any) × (Marked A M B N p.α p.β v → ⊥))
+    → ((mark_of R v ≡ grounded) × Marked A M B N p.α p.β v) ⊎ ((mark_of R v ≡ any) × (Marked A M B N p.α p.β v → ⊥))
 any_or_ground {R = R} p v =
     ⊎_elim (λ a. inr (a, λ m. let g = (p.result v).1 m in omega arith)) (λ g. inl (g, (p.result v).0 g)) (mark_any_or_ground R v)
 

@@ -30,22 +30,22 @@ known_of_gathered sets from m p all g z = (
   λ k. (g z).1 (k.0, ((has_and m p k.0).1 (k.1, k.2), has_none k.0), k.3),
 )
 
-module _ (sets : List ℕ) (from m p to n q known ground : ℕ) (k : Marks (KnownIn sets from m p) known)
-    (g : Sorted (Inside sets to known) (bit_xor q (bit_and q n)) 0 ground) where
+module _ (sets : List ℕ) (from m p to n q known grounded : ℕ) (k : Marks (KnownIn sets from m p) known)
+    (g : Sorted (Inside sets to known) (bit_xor q (bit_and q n)) 0 grounded) where
   inside_known : (y : ℕ) → Inside sets to known y ↔ AllKnownIn sets from m p to y
   inside_known y =
       let i = inside_and (get_or sets (to + y) 0) known in
       (λ e z b. (k z).0 (i.0 e z b), λ h. i.1 (λ z b. (k z).1 (h z b)))
 
   -- "marked in the result if N marks it, or if all variables in what it stands for are known ground"
-  pub marked_of_ground : Marks (MarkedIn sets from m p to n q) (bit_or n ground)
-  marked_of_ground y = (λ b. out ((has_or n ground y).0 b), λ h. (has_or n ground y).1 (back h (has_decided n y)))
+  pub marked_of_ground : Marks (MarkedIn sets from m p to n q) (bit_or n grounded)
+  marked_of_ground y = (λ b. out ((has_or n grounded y).0 b), λ h. (has_or n grounded y).1 (back h (has_decided n y)))
     where
-      out : Has n y ⊎ Has ground y → MarkedIn sets from m p to n q y
+      out : Has n y ⊎ Has grounded y → MarkedIn sets from m p to n q y
       out (inl b) = inl b
       out (inr b) = let e = (g y).0 b in inr (((has_less q n y).0 e.0.0).0, (inside_known y).0 e.1)
 
-      back : MarkedIn sets from m p to n q y → Dec (Has n y) → Has n y ⊎ Has ground y
+      back : MarkedIn sets from m p to n q y → Dec (Has n y) → Has n y ⊎ Has grounded y
       back h (yes b) = inl b
       back (inl b) (no o) = inl b
       back (inr h) (no o) = inr ((g y).1 (((has_less q n y).1 (h.0, o), has_none y), (inside_known y).1 h.1))

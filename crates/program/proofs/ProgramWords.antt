@@ -24,17 +24,17 @@ goal_words t mask = enc t ++ after 0 t ∷ modes_of (after 0 t) mask
 
 -- what is known of what is written behind the declarations
 pub record WrittenRead (ps fs : List ℕ) (n : ℕ) (ws : List ℕ) (p : Program) : Type 0 where
-  pub are : ws ≡ encode_clauses p.clauses ++ goal_words p.goal p.ground
+  pub are : ws ≡ encode_clauses p.clauses ++ goal_words p.goal p.grounded
   pub predicates_are : p.predicates ≡ ps
   pub functions_are : p.functions ≡ fs
   pub number : length p.clauses ≡ n
   pub within : Each (WithinClause ps fs) p.clauses
   pub goal_atom : Atom ps fs p.goal
   pub goal_numbered : Numbered 0 p.goal
-  pub marks : p.ground < 2 ^ after 0 p.goal
+  pub marks : p.grounded < 2 ^ after 0 p.goal
 
 abbrev program_of : List ℕ → List ℕ → List Clause → Term × ℕ → Program
-program_of ps fs cs g = record { predicates = ps; functions = fs; clauses = cs; goal = g.0; ground = g.1 }
+program_of ps fs cs g = record { predicates = ps; functions = fs; clauses = cs; goal = g.0; grounded = g.1 }
 
 written_parts : (ps fs : List ℕ) (n : ℕ) (ws r₁ r₂ rest : List ℕ) (cs : List Clause) (g : Term × ℕ) (p : Program)
     → ClausesRead ps fs n ws cs r₁ → GoalRead ps fs r₁ g.0 g.1 r₂ → ended (program_of ps fs cs g) r₂ ≡ right p rest
@@ -68,13 +68,13 @@ written_read ps fs n ws p rest e =
     (clauses_read ps fs n ws one.0 one.1 one.2) (goal_read ps fs one.1 two.0 two.1 two.2) two.3
 
 read_written : (p : Program) → WithinLimits p
-    → written p.predicates p.functions (length p.clauses) (encode_clauses p.clauses ++ goal_words p.goal p.ground) ≡ right p []
+    → written p.predicates p.functions (length p.clauses) (encode_clauses p.clauses ++ goal_words p.goal p.grounded) ≡ right p []
 unfolding written
 read_written p w =
     rw (
-      read_clauses p.predicates p.functions p.clauses (goal_words p.goal p.ground) w.clauses_within,
-      ← append-nil (modes_of (after 0 p.goal) p.ground),
-      read_goal p.predicates p.functions p.goal p.ground [] w.goal_atom w.goal_numbered w.marks,
+      read_clauses p.predicates p.functions p.clauses (goal_words p.goal p.grounded) w.clauses_within,
+      ← append-nil (modes_of (after 0 p.goal) p.grounded),
+      read_goal p.predicates p.functions p.goal p.grounded [] w.goal_atom w.goal_numbered w.marks,
     )
 
 -- what is known of a whole that was read, but for its length

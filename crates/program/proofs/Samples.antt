@@ -14,7 +14,7 @@ empty_slice = refl
 
 -- "words 1 0 0 0 0 0": one predicate without arguments, which is the goal
 pub least_program :
-    faults (1 ∷ 0 ∷ 0 ∷ 0 ∷ 0 ∷ 0 ∷ []) ≡ sound (record { predicates = 0 ∷ []; functions = []; clauses = []; goal = app 0 nil; ground = 0 })
+    faults (1 ∷ 0 ∷ 0 ∷ 0 ∷ 0 ∷ 0 ∷ []) ≡ sound (record { predicates = 0 ∷ []; functions = []; clauses = []; goal = app 0 nil; grounded = 0 })
 unfolding bounded several terms atom atoms clause goal written declared whole faults
 least_program = refl
 
@@ -41,7 +41,7 @@ pub legs_read :
           ∷ record { head = app 1 (cons (app 1 nil) (cons (var 0) nil)); body = [] }
           ∷ [];
       goal = app 0 (cons (var 0) (cons (var 1) nil));
-      ground = 1;
+      grounded = 1;
     })
 unfolding bounded several terms atom atoms clause goal written declared whole faults legs
 legs_read = refl

@@ -29,7 +29,7 @@ module _ (words : List ℕ) where
 
   module _ (ps fs : List ℕ) (c : ℕ) (ws : List ℕ) where
     abbrev program : List Clause → Term × ℕ → Program
-    program cs g = record { predicates = ps; functions = fs; clauses = cs; goal = g.0; ground = g.1 }
+    program cs g = record { predicates = ps; functions = fs; clauses = cs; goal = g.0; grounded = g.1 }
 
     abbrev behind_clauses : List Clause → List ℕ → Decoded Program
     behind_clauses cs rest = next (goal ps fs rest) (λ g rest'. ended (program cs g) rest')

@@ -43,7 +43,7 @@ unfoldable pub written : List ℕ → List ℕ → ℕ → List ℕ → Decoded 
 written predicates functions n ws =
     next (several (clause predicates functions) n ws)
     (λ cs rest. next (goal predicates functions rest)
-    (λ g rest'. ended (record { predicates = predicates; functions = functions; clauses = cs; goal = g.0; ground = g.1 }) rest'))
+    (λ g rest'. ended (record { predicates = predicates; functions = functions; clauses = cs; goal = g.0; grounded = g.1 }) rest'))
 
 -- "P predicate arities, then F function arities, each 0 to 8", and what is written with them
 unfoldable pub declared : ℕ → ℕ → ℕ → List ℕ → Decoded Program

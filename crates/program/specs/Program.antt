@@ -18,7 +18,7 @@ pub record Program : Type 0 where
   pub clauses : List Clause
   pub goal : Term
   -- the mask of the goal's ground variables
-  pub ground : ℕ
+  pub grounded : ℕ
 
 -- the body atoms, in program order
 abbrev pub bodies : List Clause → List Term

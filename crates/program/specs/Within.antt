@@ -55,7 +55,7 @@ unfoldable pub encode : Program → List ℕ
 encode p =
     length p.predicates ∷ length p.functions ∷ length p.clauses
     ∷ p.predicates ++ (p.functions ++ (encode_clauses p.clauses
-    ++ (enc p.goal ++ after 0 p.goal ∷ modes_of (after 0 p.goal) p.ground)))
+    ++ (enc p.goal ++ after 0 p.goal ∷ modes_of (after 0 p.goal) p.grounded)))
 
 pub record WithinClause (predicates functions : List ℕ) (c : Clause) : Type 0 where
   pub body : length c.body ≤ max_body
@@ -74,5 +74,5 @@ pub record WithinLimits (p : Program) : Type 0 where
   pub goal_atom : Atom p.predicates p.functions p.goal
   pub goal_numbered : Numbered 0 p.goal
   -- no mode but of the goal's variables
-  pub marks : p.ground < 2 ^ after 0 p.goal
+  pub marks : p.grounded < 2 ^ after 0 p.goal
   pub words_most : length (encode p) ≤ max_words

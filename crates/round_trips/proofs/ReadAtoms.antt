@@ -138,19 +138,19 @@ module _ (t : Symbols) (ps fs : List ℕ) (query : Bool) (declares : Declares t 
       (omega arith) (rw not-zero (omega arith)) (rw not-zero) refl (omega arith) (λ v h. refl) (λ ts. encs_function w (get_or fs w 0) ts low)
       (rw (lt-ltb w first_variable low) token) k
 
-  variable_more : (v n : ℕ) (ground : Bool) → r.wanted ≡ suc n → r.cells < atom_cells → v ≤ max_variable → v ≤ r.variables
-      → (v < r.variables → get_or r.modes v 0 ≡ mode_of ground) → s ≡ sign_byte ground ∷ decimal v → Modal query r
-      → Taken t ps fs query (with_variable r v ground) ss r' → Taken t ps fs query r (s ∷ ss) r'
-  variable_more v n ground some-wanted short small known mode token modal k =
+  variable_more : (v n : ℕ) (grounded : Bool) → r.wanted ≡ suc n → r.cells < atom_cells → v ≤ max_variable → v ≤ r.variables
+      → (v < r.variables → get_or r.modes v 0 ≡ mode_of grounded) → s ≡ sign_byte grounded ∷ decimal v → Modal query r
+      → Taken t ps fs query (with_variable r v grounded) ss r' → Taken t ps fs query r (s ∷ ss) r'
+  variable_more v n grounded some-wanted short small known mode token modal k =
       let high : first_variable ≤ first_variable + v = omega arith in
       let same : first_variable + v - first_variable ≡ v = omega arith in
-      let final : get_or r'.modes v 0 ≡ mode_of ground =
-      k.keeps v (variable_within query r v ground modal known) ∙ variable_mode query r v ground modal known mode in
-      argument_more (with_variable r v ground) (first_variable + v) n 0 some-wanted
-      (variable_opens fs r.cells r.variables v short small known ∙ ap (Opens 0) (sym (variable_meets query r v ground modal known)))
-      (omega arith) (omega arith) refl refl (variables_grow query r v ground modal known) (variable_keeps query r v ground modal known)
+      let final : get_or r'.modes v 0 ≡ mode_of grounded =
+      k.keeps v (variable_within query r v grounded modal known) ∙ variable_mode query r v grounded modal known mode in
+      argument_more (with_variable r v grounded) (first_variable + v) n 0 some-wanted
+      (variable_opens fs r.cells r.variables v short small known ∙ ap (Opens 0) (sym (variable_meets query r v grounded modal known)))
+      (omega arith) (omega arith) refl refl (variables_grow query r v grounded modal known) (variable_keeps query r v grounded modal known)
       (encs_variable v 0)
-      (rw (le-ltb (first_variable + v) first_variable high) (rw same (token ∙ sym (variable_token_is r'.modes v ground final)))) k
+      (rw (le-ltb (first_variable + v) first_variable high) (rw same (token ∙ sym (variable_token_is r'.modes v grounded final)))) k
 
 -- (atom) a line's tokens, from a row on
 module _ (t : Symbols) (ps fs : List ℕ) (query : Bool) (declares : Declares t ps fs) where
@@ -158,15 +158,15 @@ module _ (t : Symbols) (ps fs : List ℕ) (query : Bool) (declares : Declares t 
   taken_modal : {r r₁ : Row} {s : List ℕ} → Modal query r → Takes t ps fs query r s r₁ → Modal query r₁
   taken_modal m (starts none few below token) = record { met = m.met; each = m.each; any = m.any }
   taken_modal m (function some short below token) = record { met = m.met; each = m.each; any = m.any }
-  taken_modal {r} m (variable {v} {n} {ground} some short small known mode plain token) = variable_modal query r v ground m known plain
+  taken_modal {r} m (variable {v} {n} {grounded} some short small known mode plain token) = variable_modal query r v grounded m known plain
 
   taken_more : (r r₁ : Row) (s : List ℕ) (ss : List (List ℕ)) (r' : Row) → Modal query r → (query ≡ true → r.wanted ≡ 0 → r.atoms ≡ 0)
       → Takes t ps fs query r s r₁ → Taken t ps fs query r₁ ss r' → Taken t ps fs query r (s ∷ ss) r'
   taken_more r r₁ s ss r' m once (starts {w} none few below token) k =
       start_more t ps fs query declares r s ss r' w none few below token (λ e. once e none) k
   taken_more r r₁ s ss r' m once (function {w} {n} some short below token) k = function_more t ps fs query declares r s ss r' w n some short below token k
-  taken_more r r₁ s ss r' m once (variable {v} {n} {ground} some short small known mode plain token) k =
-      variable_more t ps fs query declares r s ss r' v n ground some short small known mode token m k
+  taken_more r r₁ s ss r' m once (variable {v} {n} {grounded} some short small known mode plain token) k =
+      variable_more t ps fs query declares r s ss r' v n grounded some short small known mode token m k
 
   no_tokens : (r r' : Row) (at : ℕ) (b : Bool) → Modal query r → complete r ≡ b → cond b (right r) (wrong too_soon at) ≡ right r' → Taken t ps fs query r [] r'
   no_tokens r r' at true m e q =

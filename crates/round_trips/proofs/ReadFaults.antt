@@ -39,7 +39,7 @@ FaultyBy (right a) = Unit {0}
 abbrev LookFaulty : Look → Type 0
 LookFaulty (Fault number) = FaultNumber number
 LookFaulty (Symbol word arity) = Unit {0}
-LookFaulty (Met v ground) = Unit {0}
+LookFaulty (Met v grounded) = Unit {0}
 
 abbrev DeclaredFaulty : Declared → Type 0
 DeclaredFaulty (DeclaredFault number place) = FaultNumber number
@@ -57,27 +57,27 @@ next_faults (right a) f h k = k a
 named_faults : (names arities : List ℕ) (from to : ℕ) (s : List ℕ) → LookFaulty (named_of names arities from to s)
 named_faults names arities from to s = either LookFaulty (ltb (seek names (padded s) from (to - from)) to) tt (omega arith)
 
-variable_faults : (seen : ℕ) (modes : List ℕ) (v : ℕ) (ground : Bool) → LookFaulty (variable_at seen modes v ground)
-variable_faults seen modes v ground =
+variable_faults : (seen : ℕ) (modes : List ℕ) (v : ℕ) (grounded : Bool) → LookFaulty (variable_at seen modes v grounded)
+variable_faults seen modes v grounded =
     either LookFaulty (ltb max_variable v) (omega arith)
     (either LookFaulty (ltb seen v) (omega arith)
-    (either LookFaulty (ltb v seen) (either LookFaulty (eqb (get_or modes v 0) (mode_of ground)) tt (omega arith)) tt))
+    (either LookFaulty (ltb v seen) (either LookFaulty (eqb (get_or modes v 0) (mode_of grounded)) tt (omega arith)) tt))
 
 start_faults : (t : Symbols) (atoms : ℕ) (s : List ℕ) (k : Token) → LookFaulty (start_of t atoms s k)
 start_faults t atoms s Wrong = omega arith
 start_faults t atoms s Name = either LookFaulty (ltb max_body atoms) (omega arith) (named_faults t.names t.arities 0 t.predicates s)
-start_faults t atoms s (Variable ground v) = either LookFaulty (ltb max_body atoms) {x = Fault out_of_range} {y = Fault undeclared} (omega arith) (omega arith)
+start_faults t atoms s (Variable grounded v) = either LookFaulty (ltb max_body atoms) {x = Fault out_of_range} {y = Fault undeclared} (omega arith) (omega arith)
 
 argument_faults : (t : Symbols) (r : Row) (s : List ℕ) (k : Token) → LookFaulty (argument_of t r s k)
 argument_faults t r s Wrong = omega arith
 argument_faults t r s Name =
     either LookFaulty (leb atom_cells r.cells) (omega arith) (named_faults t.names t.arities t.predicates (t.predicates + t.functions) s)
-argument_faults t r s (Variable ground v) = either LookFaulty (leb atom_cells r.cells) (omega arith) (variable_faults r.variables r.modes v ground)
+argument_faults t r s (Variable grounded v) = either LookFaulty (leb atom_cells r.cells) (omega arith) (variable_faults r.variables r.modes v grounded)
 
 taken_faults : (r : Row) (at : ℕ) (l : Look) → LookFaulty l → FaultyBy (taken_at r at l)
 taken_faults r at (Fault number) h = h
 taken_faults r at (Symbol word arity) h = tt
-taken_faults r at (Met v ground) h = tt
+taken_faults r at (Met v grounded) h = tt
 
 cells_faults : (ss : List (List ℕ)) (t : Symbols) (query : Bool) (r : Row) (at : ℕ) → FaultyBy (cells_of t query r at ss)
 cells_faults [] t query r at = either FaultyBy (complete r) tt (omega arith)

@@ -101,7 +101,7 @@ module _ (t : TextSoFar) (text : List ℕ) (read : ReadSoFar t text) (some : 0 <
         functions = read.program.functions;
         clauses = read.program.clauses;
         goal = g.is;
-        ground = mask_of r.modes;
+        grounded = mask_of r.modes;
       }
 
   variables_met : length r.modes ≡ after 0 g.is

@@ -37,9 +37,9 @@ pub data Takes (t : Symbols) (ps fs : List ℕ) (query : Bool) (r : Row) (s : Li
       → Takes t ps fs query r s (with_symbol r w (get_or ps w 0))
   function : {w n : ℕ} → r.wanted ≡ suc n → r.cells < atom_cells → w < length fs → s ≡ symbol_token t.names (t.predicates + w)
       → Takes t ps fs query r s (with_symbol r w (get_or fs w 0))
-  variable : {v n : ℕ} {ground : Bool} → r.wanted ≡ suc n → r.cells < atom_cells → v ≤ max_variable → v ≤ r.variables
-      → (v < r.variables → get_or r.modes v 0 ≡ mode_of ground) → (query ≡ false → ground ≡ false) → s ≡ sign_byte ground ∷ decimal v
-      → Takes t ps fs query r s (with_variable r v ground)
+  variable : {v n : ℕ} {grounded : Bool} → r.wanted ≡ suc n → r.cells < atom_cells → v ≤ max_variable → v ≤ r.variables
+      → (v < r.variables → get_or r.modes v 0 ≡ mode_of grounded) → (query ≡ false → grounded ≡ false) → s ≡ sign_byte grounded ∷ decimal v
+      → Takes t ps fs query r s (with_variable r v grounded)
 
 -- a name that is found, and its cell
 record Named (names words : List ℕ) (from to : ℕ) (s : List ℕ) (r r' : Row) : Type 0 where
@@ -99,36 +99,36 @@ module _ (t : Symbols) (ps fs : List ℕ) (query : Bool) (declares : Declares t 
       let below : found.number < length fs = omega (arith, found.within, declares.functions) in
       rw (← found.row, function_arity t ps fs declares found.number below) (function some (leb-false atom_cells r.cells b) below found.token)
 
-  variable_taken : (n v : ℕ) (ground : Bool) → r.wanted ≡ suc n → VariableToken query s ground v → (b : Bool) → leb atom_cells r.cells ≡ b
-      → taken_at r at (cond b (Fault long_atom) (variable_at r.variables r.modes v ground)) ≡ right r' → Takes t ps fs query r s r'
-  variable_taken n v ground some token true b q = let z : ◌≡◌ {A = ℕ} 0 1 = cc in absurd (omega arith)
-  variable_taken n v ground some token false b q = large (ltb max_variable v) refl q
+  variable_taken : (n v : ℕ) (grounded : Bool) → r.wanted ≡ suc n → VariableToken query s grounded v → (b : Bool) → leb atom_cells r.cells ≡ b
+      → taken_at r at (cond b (Fault long_atom) (variable_at r.variables r.modes v grounded)) ≡ right r' → Takes t ps fs query r s r'
+  variable_taken n v grounded some token true b q = let z : ◌≡◌ {A = ℕ} 0 1 = cc in absurd (omega arith)
+  variable_taken n v grounded some token false b q = large (ltb max_variable v) refl q
     where
-      taken : v ≤ max_variable → v ≤ r.variables → (v < r.variables → get_or r.modes v 0 ≡ mode_of ground)
-          → taken_at r at (Met v ground) ≡ right r' → Takes t ps fs query r s r'
+      taken : v ≤ max_variable → v ≤ r.variables → (v < r.variables → get_or r.modes v 0 ≡ mode_of grounded)
+          → taken_at r at (Met v grounded) ≡ right r' → Takes t ps fs query r s r'
       taken small known mode q =
-          let row : with_variable r v ground ≡ r' = cc in
+          let row : with_variable r v grounded ≡ r' = cc in
           rw (← row) (variable some (leb-false atom_cells r.cells b) small known mode token.any (token.is small))
 
-      mode_same : v ≤ max_variable → v ≤ r.variables → (c : Bool) → eqb (get_or r.modes v 0) (mode_of ground) ≡ c
-          → taken_at r at (cond c (Met v ground) (Fault both_modes)) ≡ right r' → Takes t ps fs query r s r'
+      mode_same : v ≤ max_variable → v ≤ r.variables → (c : Bool) → eqb (get_or r.modes v 0) (mode_of grounded) ≡ c
+          → taken_at r at (cond c (Met v grounded) (Fault both_modes)) ≡ right r' → Takes t ps fs query r s r'
       mode_same small known true c q = taken small known (λ l. eqb-true _ _ c) q
       mode_same small known false c q = let z : ◌≡◌ {A = ℕ} 0 1 = cc in absurd (omega arith)
 
       seen : v ≤ max_variable → v ≤ r.variables → (c : Bool) → ltb v r.variables ≡ c
-          → taken_at r at (cond c (cond (eqb (get_or r.modes v 0) (mode_of ground)) (Met v ground) (Fault both_modes)) (Met v ground)) ≡ right r'
+          → taken_at r at (cond c (cond (eqb (get_or r.modes v 0) (mode_of grounded)) (Met v grounded) (Fault both_modes)) (Met v grounded)) ≡ right r'
           → Takes t ps fs query r s r'
-      seen small known true c q = mode_same small known (eqb (get_or r.modes v 0) (mode_of ground)) refl q
+      seen small known true c q = mode_same small known (eqb (get_or r.modes v 0) (mode_of grounded)) refl q
       seen small known false c q = taken small known (λ l. absurd (let m = ltb-false v r.variables c in omega arith)) q
 
       skips : v ≤ max_variable → (c : Bool) → ltb r.variables v ≡ c
-          → taken_at r at (cond c (Fault bad_variable) (cond (ltb v r.variables) (cond (eqb (get_or r.modes v 0) (mode_of ground)) (Met v ground) (Fault both_modes)) (Met v ground))) ≡ right r'
+          → taken_at r at (cond c (Fault bad_variable) (cond (ltb v r.variables) (cond (eqb (get_or r.modes v 0) (mode_of grounded)) (Met v grounded) (Fault both_modes)) (Met v grounded))) ≡ right r'
           → Takes t ps fs query r s r'
       skips small true c q = let z : ◌≡◌ {A = ℕ} 0 1 = cc in absurd (omega arith)
       skips small false c q = seen small (ltb-false r.variables v c) (ltb v r.variables) refl q
 
       large : (c : Bool) → ltb max_variable v ≡ c
-          → taken_at r at (cond c (Fault bad_variable) (cond (ltb r.variables v) (Fault bad_variable) (cond (ltb v r.variables) (cond (eqb (get_or r.modes v 0) (mode_of ground)) (Met v ground) (Fault both_modes)) (Met v ground)))) ≡ right r'
+          → taken_at r at (cond c (Fault bad_variable) (cond (ltb r.variables v) (Fault bad_variable) (cond (ltb v r.variables) (cond (eqb (get_or r.modes v 0) (mode_of grounded)) (Met v grounded) (Fault both_modes)) (Met v grounded)))) ≡ right r'
           → Takes t ps fs query r s r'
       large true c q = let z : ◌≡◌ {A = ℕ} 0 1 = cc in absurd (omega arith)
       large false c q = skips (ltb-false max_variable v c) (ltb r.variables v) refl q
@@ -144,12 +144,12 @@ module _ (t : Symbols) (ps fs : List ℕ) (query : Bool) (declares : Declares t 
       start : r.wanted ≡ 0 → (k : Token) → token_of query s ≡ k → taken_at r at (start_of t r.atoms s k) ≡ right r' → Takes t ps fs query r s r'
       start none Wrong f q = let z : ◌≡◌ {A = ℕ} 0 1 = cc in absurd (omega arith)
       start none Name f q = predicate_taken none (name_token query s f) (ltb max_body r.atoms) refl q
-      start none (Variable ground v) f q = absurd (no_predicate (ltb max_body r.atoms) q)
+      start none (Variable grounded v) f q = absurd (no_predicate (ltb max_body r.atoms) q)
 
       argument : (n : ℕ) → r.wanted ≡ suc n → (k : Token) → token_of query s ≡ k → taken_at r at (argument_of t r s k) ≡ right r' → Takes t ps fs query r s r'
       argument n some Wrong f q = let z : ◌≡◌ {A = ℕ} 0 1 = cc in absurd (omega arith)
       argument n some Name f q = function_taken n some (name_token query s f) (leb atom_cells r.cells) refl q
-      argument n some (Variable ground v) f q = variable_taken n v ground some (variable_token_law query s ground v f) (leb atom_cells r.cells) refl q
+      argument n some (Variable grounded v) f q = variable_taken n v grounded some (variable_token_law query s grounded v f) (leb atom_cells r.cells) refl q
 
       by : (b : Bool) → eqb r.wanted 0 ≡ b → (k : Token) → token_of query s ≡ k
           → taken_at r at (cond b (start_of t r.atoms s k) (argument_of t r s k)) ≡ right r' → Takes t ps fs query r s r'

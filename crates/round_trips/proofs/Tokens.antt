@@ -94,48 +94,48 @@ number_decimal ds n e h = by (is_number ds) refl e
 
 -- the byte that a variable begins with
 abbrev pub sign_byte : Bool → ℕ
-sign_byte ground = cond ground upper_g upper_v
+sign_byte grounded = cond grounded upper_g upper_v
 
-pub variable_token_is : (modes : List ℕ) (v : ℕ) (ground : Bool) → get_or modes v 0 ≡ mode_of ground → variable_token modes v ≡ sign_byte ground ∷ decimal v
+pub variable_token_is : (modes : List ℕ) (v : ℕ) (grounded : Bool) → get_or modes v 0 ≡ mode_of grounded → variable_token modes v ≡ sign_byte grounded ∷ decimal v
 variable_token_is modes v true e = rw e
 variable_token_is modes v false e = rw e
 
 -- what is known of a variable's token
-pub record VariableToken (query : Bool) (s : List ℕ) (ground : Bool) (v : ℕ) : Type 0 where
-  pub is : v ≤ max_variable → s ≡ sign_byte ground ∷ decimal v
-  pub any : query ≡ false → ground ≡ false
+pub record VariableToken (query : Bool) (s : List ℕ) (grounded : Bool) (v : ℕ) : Type 0 where
+  pub is : v ≤ max_variable → s ≡ sign_byte grounded ∷ decimal v
+  pub any : query ≡ false → grounded ≡ false
 
-signed_is : (query ground : Bool) (b : ℕ) (ds : List ℕ) (ground' : Bool) (v : ℕ) (n : Number) → number_of ds ≡ n → b ≡ sign_byte ground → (query ≡ false → ground ≡ false)
-    → signed ground n ≡ Variable ground' v → VariableToken query (b ∷ ds) ground' v
-signed_is query ground b ds ground' v None f e any q = let z : ◌≡◌ {A = ℕ} 0 1 = cc in absurd (omega arith)
-signed_is query ground b ds ground' v (Value n) f e any q =
-    let alike : ground ≡ ground' = cc in
+signed_is : (query grounded : Bool) (b : ℕ) (ds : List ℕ) (grounded' : Bool) (v : ℕ) (n : Number) → number_of ds ≡ n → b ≡ sign_byte grounded → (query ≡ false → grounded ≡ false)
+    → signed grounded n ≡ Variable grounded' v → VariableToken query (b ∷ ds) grounded' v
+signed_is query grounded b ds grounded' v None f e any q = let z : ◌≡◌ {A = ℕ} 0 1 = cc in absurd (omega arith)
+signed_is query grounded b ds grounded' v (Value n) f e any q =
+    let alike : grounded ≡ grounded' = cc in
     let number : n ≡ v = cc in
     rw (← alike, ← number) (record { is = λ h. ap₂ (λ (x : ℕ) (l : List ℕ). x ∷ l) e (number_decimal ds n f h); any = any })
 
-pub variable_token_law : (query : Bool) (s : List ℕ) (ground : Bool) (v : ℕ) → token_of query s ≡ Variable ground v → VariableToken query s ground v
-variable_token_law query [] ground v e = let z : ◌≡◌ {A = ℕ} 0 1 = cc in absurd (omega arith)
-variable_token_law query (b ∷ ds) ground v e = by (is_name (b ∷ ds)) e
+pub variable_token_law : (query : Bool) (s : List ℕ) (grounded : Bool) (v : ℕ) → token_of query s ≡ Variable grounded v → VariableToken query s grounded v
+variable_token_law query [] grounded v e = let z : ◌≡◌ {A = ℕ} 0 1 = cc in absurd (omega arith)
+variable_token_law query (b ∷ ds) grounded v e = by (is_name (b ∷ ds)) e
   where
-    third : (t : Bool) → query && eqb b upper_g ≡ t → cond t (variable_of true ds) Wrong ≡ Variable ground v → VariableToken query (b ∷ ds) ground v
+    third : (t : Bool) → query && eqb b upper_g ≡ t → cond t (variable_of true ds) Wrong ≡ Variable grounded v → VariableToken query (b ∷ ds) grounded v
     third true f q =
         let parts = both_true query (eqb b upper_g) f in
-        signed_is query true b ds ground v (number_of ds) refl (eqb-true b upper_g parts.1)
+        signed_is query true b ds grounded v (number_of ds) refl (eqb-true b upper_g parts.1)
         (λ no-query. let z : ◌≡◌ {A = ℕ} 0 1 = cc in absurd (omega arith)) q
     third false f q = let z : ◌≡◌ {A = ℕ} 0 1 = cc in absurd (omega arith)
 
-    second : (t : Bool) → eqb b upper_v ≡ t → cond t (variable_of false ds) (cond (query && eqb b upper_g) (variable_of true ds) Wrong) ≡ Variable ground v
-        → VariableToken query (b ∷ ds) ground v
-    second true f q = signed_is query false b ds ground v (number_of ds) refl (eqb-true b upper_v f) (λ no-query. refl) q
+    second : (t : Bool) → eqb b upper_v ≡ t → cond t (variable_of false ds) (cond (query && eqb b upper_g) (variable_of true ds) Wrong) ≡ Variable grounded v
+        → VariableToken query (b ∷ ds) grounded v
+    second true f q = signed_is query false b ds grounded v (number_of ds) refl (eqb-true b upper_v f) (λ no-query. refl) q
     second false f q = third (query && eqb b upper_g) refl q
 
-    by : (t : Bool) → cond t Name (sign_of query b ds) ≡ Variable ground v → VariableToken query (b ∷ ds) ground v
+    by : (t : Bool) → cond t Name (sign_of query b ds) ≡ Variable grounded v → VariableToken query (b ∷ ds) grounded v
     by true q = let z : ◌≡◌ {A = ℕ} 0 1 = cc in absurd (omega arith)
     by false q = second (eqb b upper_v) refl q
 
-number_no_name : (ground : Bool) (n : Number) → signed ground n ≡ Name → ⊥
-number_no_name ground None q = let z : ◌≡◌ {A = ℕ} 0 1 = cc in omega arith
-number_no_name ground (Value n) q = let z : ◌≡◌ {A = ℕ} 0 1 = cc in omega arith
+number_no_name : (grounded : Bool) (n : Number) → signed grounded n ≡ Name → ⊥
+number_no_name grounded None q = let z : ◌≡◌ {A = ℕ} 0 1 = cc in omega arith
+number_no_name grounded (Value n) q = let z : ◌≡◌ {A = ℕ} 0 1 = cc in omega arith
 
 -- a token that is taken for a name is one
 pub name_token : (query : Bool) (s : List ℕ) → token_of query s ≡ Name → is_name s ≡ true

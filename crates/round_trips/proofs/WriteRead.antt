@@ -67,12 +67,12 @@ reads_text p names w s =
     let ps : List ℕ = p.predicates in
     let fs : List ℕ = p.functions in
     let cs = p.clauses in
-    let rest : List ℕ = line query (atom_tokens names (length ps) (modes_of (after 0 p.goal) p.ground) (enc p.goal)) in
+    let rest : List ℕ = line query (atom_tokens names (length ps) (modes_of (after 0 p.goal) p.grounded) (enc p.goal)) in
     reads_declared names ps fs s (clause_lines names (length ps) cs ++ rest) (scenario (encode p) names)
     w.some w.predicates_most w.functions_most w.predicate_arities w.function_arities
     (reads_clauses names ps fs s cs rest (scenario (encode p) names) w.some w.clauses_most w.clauses_within
     (rw (last_section names (predicates_of names ps ∷ functions_of names (length ps) fs ∷ []) (clauses_of names (length ps) cs))
-    (reads_query names ps fs s (clauses_of names (length ps) cs ∷ []) p.goal p.ground w.some w.goal_atom w.goal_numbered)))
+    (reads_query names ps fs s (clauses_of names (length ps) cs ∷ []) p.goal p.grounded w.some w.goal_atom w.goal_numbered)))
 
 -- it is never refused: not too long, no fault, not too many words
 program_read : (p : Program) (names : List ℕ) → WithinLimits p → SoundNames names (length p.predicates) (length p.functions)

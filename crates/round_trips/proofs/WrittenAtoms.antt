@@ -41,9 +41,9 @@ open_row query ms atoms m cells seen out = rw (ne_eqb (suc m) 0 (λ (e : suc m �
     never false = refl
 
 -- the cell of a variable behind a row
-variable_row : (ms : List ℕ) (atoms m cells seen v : ℕ) (out : List ℕ) (ground : Bool) → v ≤ seen → mode_of ground ≡ get_or ms v 0
-    → with_variable (row_at ms atoms (suc m) cells seen out) v ground ≡ row_at ms atoms m (cells + 1) (meet seen v) (out ++ (first_variable + v) ∷ [])
-variable_row ms atoms m cells seen v out ground h mode = let fewer : suc m - 1 ≡ m = omega arith in rw fewer (go (ltb v seen) refl)
+variable_row : (ms : List ℕ) (atoms m cells seen v : ℕ) (out : List ℕ) (grounded : Bool) → v ≤ seen → mode_of grounded ≡ get_or ms v 0
+    → with_variable (row_at ms atoms (suc m) cells seen out) v grounded ≡ row_at ms atoms m (cells + 1) (meet seen v) (out ++ (first_variable + v) ∷ [])
+variable_row ms atoms m cells seen v out grounded h mode = let fewer : suc m - 1 ≡ m = omega arith in rw fewer (go (ltb v seen) refl)
   where
     go : (t : Bool) → ltb v seen ≡ t
         → ◌≡◌ {A = Row}
@@ -52,7 +52,7 @@ variable_row ms atoms m cells seen v out ground h mode = let fewer : suc m - 1 �
           cells = cells + 1;
           atoms = atoms;
           variables = cond t seen (seen + 1);
-          modes = cond t (modes_up_to ms seen) (modes_up_to ms seen ++ mode_of ground ∷ []);
+          modes = cond t (modes_up_to ms seen) (modes_up_to ms seen ++ mode_of grounded ∷ []);
           out = out ++ (first_variable + v) ∷ [];
         })
         (row_at ms atoms m (cells + 1) (pick t seen (suc v)) (out ++ (first_variable + v) ∷ []))

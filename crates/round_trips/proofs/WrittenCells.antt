@@ -61,13 +61,13 @@ row_at ms atoms wanted cells seen out =
 
 -- what a mode's sign is read as
 pub variable_read : (query : Bool) (ms : List ℕ) (v : ℕ) → v < variables → Mode query (get_or ms v 0)
-    → (ground : Bool) × (token_of query (variable_token ms v) ≡ Variable ground v) × (mode_of ground ≡ get_or ms v 0)
+    → (grounded : Bool) × (token_of query (variable_token ms v) ≡ Variable grounded v) × (mode_of grounded ≡ get_or ms v 0)
 variable_read query ms v h (inl any) =
     let sign : eqb (get_or ms v 0) ground_mode ≡ false = rw any in
     (false, rw (sign, (number_printed v h).read), sym any)
-variable_read query ms v h (inr ground) =
-    let sign : eqb (get_or ms v 0) ground_mode ≡ true = rw ground.0 in
-    (true, rw (sign, ground.1, (number_printed v h).read), sym ground.0)
+variable_read query ms v h (inr grounded) =
+    let sign : eqb (get_or ms v 0) ground_mode ≡ true = rw grounded.0 in
+    (true, rw (sign, grounded.1, (number_printed v h).read), sym grounded.0)
 
 module _ (names ps fs ws : List ℕ) (query : Bool) (ms : List ℕ)
     (sound : SoundNames names (length ps) (length fs)) where
@@ -97,16 +97,16 @@ module _ (names ps fs ws : List ℕ) (query : Bool) (ms : List ℕ)
       (ap₂ Symbol (let e : length ps + f - length ps ≡ f = omega arith in e)
       (get_or-append-add ps (fs ++ ws) f 0 ∙ get_or-append fs ws 0 f h))
 
-  pub argument_variable : (v atoms m cells seen : ℕ) (out : List ℕ) (ground : Bool) → v < variables → v ≤ seen → cells < atom_cells
-      → token_of query (variable_token ms v) ≡ Variable ground v → mode_of ground ≡ get_or ms v 0
-      → look_of symbols query (row_at ms atoms (suc m) cells seen out) (variable_token ms v) ≡ Met v ground
-  argument_variable v atoms m cells seen out ground h known few is mode =
+  pub argument_variable : (v atoms m cells seen : ℕ) (out : List ℕ) (grounded : Bool) → v < variables → v ≤ seen → cells < atom_cells
+      → token_of query (variable_token ms v) ≡ Variable grounded v → mode_of grounded ≡ get_or ms v 0
+      → look_of symbols query (row_at ms atoms (suc m) cells seen out) (variable_token ms v) ≡ Met v grounded
+  argument_variable v atoms m cells seen out grounded h known few is mode =
       let wanting : eqb (suc m) 0 ≡ false = ne_eqb (suc m) 0 (λ (e : suc m ≡ 0). omega arith) in
       let small : v ≤ max_variable = omega arith in
       rw (wanting, is, lt-leb atom_cells cells few, le-ltb max_variable v small, le-ltb seen v known)
       (met (ltb v seen) refl)
     where
       met : (t : Bool) → ltb v seen ≡ t
-          → cond t (cond (eqb (get_or (modes_up_to ms seen) v 0) (mode_of ground)) (Met v ground) (Fault both_modes)) (Met v ground) ≡ Met v ground
-      met true e = rw (eq-eqb (get_or (modes_up_to ms seen) v 0) (mode_of ground) (get_d_modes ms seen v (ltb-true v seen e) ∙ sym mode))
+          → cond t (cond (eqb (get_or (modes_up_to ms seen) v 0) (mode_of grounded)) (Met v grounded) (Fault both_modes)) (Met v grounded) ≡ Met v grounded
+      met true e = rw (eq-eqb (get_or (modes_up_to ms seen) v 0) (mode_of grounded) (get_d_modes ms seen v (ltb-true v seen e) ∙ sym mode))
       met false e = refl

@@ -75,14 +75,14 @@ module _ (names ps fs : List ℕ) (sound : SoundNames names (length ps) (length 
 -- how many words a program has
 encode_length : (p : Program)
     → length (encode p)
-    ≡ 3 + length p.predicates + length p.functions + length (encode_clauses p.clauses) + length (enc p.goal) + 1 + length (modes_of (after 0 p.goal) p.ground)
+    ≡ 3 + length p.predicates + length p.functions + length (encode_clauses p.clauses) + length (enc p.goal) + 1 + length (modes_of (after 0 p.goal) p.grounded)
 unfolding encode
 encode_length p =
     rw (
-      length-append p.predicates (p.functions ++ (encode_clauses p.clauses ++ (enc p.goal ++ after 0 p.goal ∷ modes_of (after 0 p.goal) p.ground))),
-      length-append p.functions (encode_clauses p.clauses ++ (enc p.goal ++ after 0 p.goal ∷ modes_of (after 0 p.goal) p.ground)),
-      length-append (encode_clauses p.clauses) (enc p.goal ++ after 0 p.goal ∷ modes_of (after 0 p.goal) p.ground),
-      length-append (enc p.goal) (after 0 p.goal ∷ modes_of (after 0 p.goal) p.ground),
+      length-append p.predicates (p.functions ++ (encode_clauses p.clauses ++ (enc p.goal ++ after 0 p.goal ∷ modes_of (after 0 p.goal) p.grounded))),
+      length-append p.functions (encode_clauses p.clauses ++ (enc p.goal ++ after 0 p.goal ∷ modes_of (after 0 p.goal) p.grounded)),
+      length-append (encode_clauses p.clauses) (enc p.goal ++ after 0 p.goal ∷ modes_of (after 0 p.goal) p.grounded),
+      length-append (enc p.goal) (after 0 p.goal ∷ modes_of (after 0 p.goal) p.grounded),
     )
     (omega arith)
 
@@ -91,7 +91,7 @@ pub written_length : (p : Program) (names : List ℕ) → WithinLimits p → Sou
 written_length p names w sound =
     let ps : List ℕ = p.predicates in
     let fs : List ℕ = p.functions in
-    let modes : List ℕ = modes_of (after 0 p.goal) p.ground in
+    let modes : List ℕ = modes_of (after 0 p.goal) p.grounded in
     let d₁ : List ℕ = declarations pred names 0 ps in
     let d₂ : List ℕ = declarations func names (length ps) fs in
     let cs : List ℕ = clause_lines names (length ps) p.clauses in

@@ -42,10 +42,10 @@ pub modes_all : (modes : List ℕ) (k : ℕ) → length modes ≡ k → modes_up
 modes_all modes k e = rw (← e) (modes_front modes (length modes) (omega arith) ∙ take-length modes)
 
 -- behind the declarations and any other sections
-module _ (names ps fs : List ℕ) (sound : SoundNames names (length ps) (length fs)) (others : List Section) (t : Term) (ground : ℕ)
+module _ (names ps fs : List ℕ) (sound : SoundNames names (length ps) (length fs)) (others : List Section) (t : Term) (grounded : ℕ)
     (some : 0 < length ps) (a : Atom ps fs t) (numbered : Numbered 0 t) where
   abbrev modes : List ℕ
-  modes = modes_of (after 0 t) ground
+  modes = modes_of (after 0 t) grounded
 
   abbrev sections : List Section
   sections = predicates_of names ps ∷ functions_of names (length ps) fs ∷ others
@@ -56,7 +56,7 @@ module _ (names ps fs : List ℕ) (sound : SoundNames names (length ps) (length 
 
   query_read : (at : ℕ) → fields_of (behind_sections names sections) at (query ∷ atom_tokens names (length ps) modes (enc t)) ≡ right (last scenario)
   query_read at =
-      let m : (v : ℕ) → Mode true (get_or modes v 0) = each_mode modes (modes_each (after 0 t) ground) in
+      let m : (v : ℕ) → Mode true (get_or modes v 0) = each_mode modes (modes_each (after 0 t) grounded) in
       let r = row_at modes 1 0 (length (enc t)) (after 0 t) (enc t) in
       let ws : List ℕ = words_before others [] in
       let taken : TakesTo (declared_symbols names ps fs ws) true (row_at modes 0 0 0 0 []) (atom_tokens names (length ps) modes (enc t)) r
@@ -66,7 +66,7 @@ module _ (names ps fs : List ℕ) (sound : SoundNames names (length ps) (length 
       rw (
         lt-ltb 0 (length ps) some,
         taken (at + 5),
-        modes_all modes (after 0 t) (modes_length (after 0 t) ground),
+        modes_all modes (after 0 t) (modes_length (after 0 t) grounded),
         append_assoc (words_before sections []) (enc t) (after 0 t ∷ modes),
         words_behind sections [] (enc t ++ after 0 t ∷ modes),
       )

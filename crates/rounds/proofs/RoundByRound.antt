@@ -54,7 +54,7 @@ pub record Rounding (p : Program) (table buckets heads : List ℕ) (room since r
   pub newer : since ≤ rows
   pub enough : number ≤ rows
   pub keys : RoundKeys p k (keys_of table rows)
-  pub earlier : (row : Row ℕ) → RowsIn p (keys_of table since) row ↔ Earlier modes p p.ground k row
+  pub earlier : (row : Row ℕ) → RowsIn p (keys_of table since) row ↔ Earlier modes p p.grounded k row
   pub in_rounds : InRounds p table rows
 
 -- what has grown and differs is more
@@ -98,19 +98,19 @@ module _ (words dir : List ℕ) (p : Program) (setting : Setting words dir p) wh
 
   -- the rows of the keys of a round are those of the round
   module _ (k : ℕ) (ks : List ℕ) (kept : RoundKeys p k ks) where
-    rows_at : Within (RowsIn p ks) (At modes p p.ground k)
+    rows_at : Within (RowsIn p ks) (At modes p p.grounded k)
     rows_at row (regular, m) =
         let (row', r, e) = (kept.each (row_key p row)).0 m in
         rw (key_injective p few regular (at_regular words p setting.accepted k row' r) e) r
 
-    at_rows : Within (At modes p p.ground k) (RowsIn p ks)
+    at_rows : Within (At modes p p.grounded k) (RowsIn p ks)
     at_rows row r = (at_regular words p setting.accepted k row r, (kept.each (row_key p row)).1 (row, r, refl))
 
     -- what the rules give is there already, or is looked at
     given_looked : (key : ℕ) → Given p ks key → Memᴰ key ks ⊎ Looked p k key
     given_looked key (row, g, e) =
         ⊎_elim (λ r. inl ((kept.each key).1 (row, r, e))) (λ h. inr (row, h, e))
-        (round_covered modes p p.ground (at_decided modes modes_lists p p.ground) k row (gives_within modes p (RowsIn p ks) (At modes p p.ground k) rows_at row g))
+        (round_covered modes p p.grounded (at_decided modes modes_lists p p.grounded) k row (gives_within modes p (RowsIn p ks) (At modes p p.grounded k) rows_at row g))
 
     behind_looked : (ks' : List ℕ) → Behind ks (Given p ks) ks' → Behind ks (Looked p k) ks'
     behind_looked ks' b =
@@ -135,7 +135,7 @@ module _ (words dir : List ℕ) (p : Program) (setting : Setting words dir p) wh
           left_out = f.left_out;
         })
 
-    grown_plus : (ks₀ ks' : List ℕ) → ((row : Row ℕ) → RowsIn p ks₀ row ↔ Earlier modes p p.ground k row)
+    grown_plus : (ks₀ ks' : List ℕ) → ((row : Row ℕ) → RowsIn p ks₀ row ↔ Earlier modes p p.grounded k row)
         → Behind ks (Given p ks) ks' → ((key : ℕ) → Keyed p (NewGives modes p (RowsIn p ks₀) (RowsIn p ks)) key → Memᴰ key ks') → Plus ks (Looked p k) ks'
     grown_plus ks₀ ks' earlier b all =
         record {
@@ -143,13 +143,13 @@ module _ (words dir : List ℕ) (p : Program) (setting : Setting words dir p) wh
           all = λ key (row, h, e).
               all key (
                 row,
-                new_gives_for p (Earlier modes p p.ground k) (At modes p p.ground k) (RowsIn p ks₀) (RowsIn p ks) at_rows (λ r x. (earlier r).0 x) row h,
+                new_gives_for p (Earlier modes p p.grounded k) (At modes p p.grounded k) (RowsIn p ks₀) (RowsIn p ks) at_rows (λ r x. (earlier r).0 x) row h,
                 e,
               );
         }
 
   -- "Round 0 has one row, the goal's call."
-  module _ (table₀ buckets₀ heads table buckets : List ℕ) (room mask r : ℕ) (is-mask : mask ≡ p.ground)
+  module _ (table₀ buckets₀ heads table buckets : List ℕ) (room mask r : ℕ) (is-mask : mask ≡ p.grounded)
       (added : Added table₀ buckets₀ 0 room 0 0 mask r table buckets) where
     pub no_room_exactly : room < r → MoreThan p room
     no_room_exactly l = at added
@@ -175,7 +175,7 @@ module _ (words dir : List ℕ) (p : Program) (setting : Setting words dir p) wh
         at (full out h e t b) = absurd (omega arith)
         at (new out h e g) =
             let one : keys_of table 1 ≡ key_of 0 mask ∷ [] = g.keys in
-            let same : key_of 0 mask ≡ row_key p (call 0 p.ground) = ap (key_of 0) is-mask in
+            let same : key_of 0 mask ≡ row_key p (call 0 p.grounded) = ap (key_of 0) is-mask in
             rw e
             (record {
               k = 0;
@@ -189,8 +189,8 @@ module _ (words dir : List ℕ) (p : Program) (setting : Setting words dir p) wh
               earlier = λ row. (λ h. Memᴰ.not-nil h.1, λ x. absurd x);
               in_rounds = λ q b.
                   let z : q ≡ 0 = omega arith in
-                  let key : key_at table 0 ≡ row_key p (call 0 p.ground) = ap (λ (x : ℕ). key_of x (mask_at table 0)) g.its_slot ∙ ap (key_of 0) g.its_mask ∙ same in
-                  let row : row_of p (key_at table 0) ≡ call 0 p.ground = ap (row_of p) key ∙ row_of_key p few (goal_regular words p setting.accepted) in
+                  let key : key_at table 0 ≡ row_key p (call 0 p.grounded) = ap (λ (x : ℕ). key_of x (mask_at table 0)) g.its_slot ∙ ap (key_of 0) g.its_mask ∙ same in
+                  let row : row_of p (key_at table 0) ≡ call 0 p.grounded = ap (row_of p) key ∙ row_of_key p few (goal_regular words p setting.accepted) in
                   rw (z, g.its_round) (row, λ j b' _. absurd (omega arith));
             })
 
@@ -202,7 +202,7 @@ module _ (words dir : List ℕ) (p : Program) (setting : Setting words dir p) wh
     pub round_kept : RoundKeys p s.k (keys_of table' rows)
     round_kept = rw (keys_same rows) s.keys
 
-    earlier' : (row : Row ℕ) → RowsIn p (keys_of table' since) row ↔ Earlier modes p p.ground s.k row
+    earlier' : (row : Row ℕ) → RowsIn p (keys_of table' since) row ↔ Earlier modes p p.grounded s.k row
     earlier' row = rw (keys_same since) (s.earlier row)
 
     pub linked_writable : Writable table' buckets rows room
@@ -229,7 +229,7 @@ module _ (words dir : List ℕ) (p : Program) (setting : Setting words dir p) wh
                 masks_below = linked_writable.store.masks_below;
                 distinct = linked_writable.store.distinct;
                 regular = λ r b.
-                    let (a, e) = keyed_row words p setting.accepted (At modes p p.ground s.k) s.k (key_at table' r) (λ _ x. x) ((round_kept.each (key_at table' r)).0 (key_listed table' rows r b)) in
+                    let (a, e) = keyed_row words p setting.accepted (At modes p p.grounded s.k) s.k (key_at table' r) (λ _ x. x) ((round_kept.each (key_at table' r)).0 (key_listed table' rows r b)) in
                     (at_regular words p setting.accepted s.k (row_of p (key_at table' r)) a, e);
               };
         }
@@ -253,11 +253,11 @@ module _ (words dir : List ℕ) (p : Program) (setting : Setting words dir p) wh
           rw (e, f) (s.in_rounds r b)
 
       -- and the new ones are of the next
-      new_rounds : (r : ℕ) → rows ≤ r → r < next → First modes p p.ground (round_at table'' r) (row_of p (key_at table'' r))
+      new_rounds : (r : ℕ) → rows ≤ r → r < next → First modes p p.grounded (round_at table'' r) (row_of p (key_at table'' r))
       new_rounds r a b =
           let e : round_at table'' r ≡ suc s.k = g.rounds r a b ∙ s.is_number in
           rw e
-          (keyed_row words p setting.accepted (First modes p p.ground (suc s.k)) (suc s.k) (key_at table'' r) (λ _ f. f.0)
+          (keyed_row words p setting.accepted (First modes p p.grounded (suc s.k)) (suc s.k) (key_at table'' r) (λ _ f. f.0)
           (new_first_round p s.k round_kept plus.behind (key_at table'' r)
           (⊎_elim (λ m. absurd (older m)) (λ m. m) (behind_has (keys_of table' rows) (Looked p s.k) (keys_of table'' next) plus.behind (key_at table'' r) (key_listed table'' next r b))))).0
         where
@@ -294,6 +294,6 @@ module _ (words dir : List ℕ) (p : Program) (setting : Setting words dir p) wh
             in_rounds = λ r b. at r b (dec_lt r rows);
           }
         where
-          at : (r : ℕ) → r < next → Dec (r < rows) → First modes p p.ground (round_at table'' r) (row_of p (key_at table'' r))
+          at : (r : ℕ) → r < next → Dec (r < rows) → First modes p p.grounded (round_at table'' r) (row_of p (key_at table'' r))
           at r b (yes l) = old_rounds r l
           at r b (no l) = new_rounds r (omega arith) b

@@ -41,12 +41,12 @@ pub record LookAsked (words dir table heads : List ℕ) (since rows k concerns :
 
 -- each row stands with the round in which it first appears
 abbrev pub InRounds : Program → List ℕ → ℕ → Type 0
-InRounds p table n = (r : ℕ) → r < n → First modes p p.ground (round_at table r) (row_of p (key_at table r))
+InRounds p table n = (r : ℕ) → r < n → First modes p p.grounded (round_at table r) (row_of p (key_at table r))
 
 -- the rows are those of the last round, each once
 pub record Complete (p : Program) (table : List ℕ) (n : ℕ) : Type 0 where
   pub last : ℕ
-  pub stops : (row : Row ℕ) → At modes p p.ground (suc last) row → At modes p p.ground last row
+  pub stops : (row : Row ℕ) → At modes p p.grounded (suc last) row → At modes p p.grounded last row
   pub keys : RoundKeys p last (keys_of table n)
   pub in_rounds : InRounds p table n
   pub distinct : (r q : ℕ) → r < n → q < n → key_at table r ≡ key_at table q → r ≡ q

@@ -24,10 +24,10 @@ module _ (words : List ℕ) (p : Program) (accepted : faults words ≡ sound p) 
   accepted_covers D s goal = least_covers_runs D s p goal (goal_own_shape words p accepted)
 
   -- for the modes, from the goal with ground terms for its ground variables
-  pub accepted_covers_runs : CoversRuns modes p p.ground (Least modes p p.ground)
-  accepted_covers_runs = accepted_covers modes modes_sound p.ground
+  pub accepted_covers_runs : CoversRuns modes p p.grounded (Least modes p p.grounded)
+  accepted_covers_runs = accepted_covers modes modes_sound p.grounded
 
   -- "ground" can be trusted
-  pub accepted_ground_at_calls : (s : ℕ) (S : Term) → Nth (shapes p) s S → (v : ℕ) → Occ v S → ((M : ℕ) → Least modes p p.ground (call s M) → Has M v)
-      → (n : ℕ) (A : Term) → Called modes p p.ground n s A → (σ : Subst) → A ≡ sub S σ → Ground (σ v)
+  pub accepted_ground_at_calls : (s : ℕ) (S : Term) → Nth (shapes p) s S → (v : ℕ) → Occ v S → ((M : ℕ) → Least modes p p.grounded (call s M) → Has M v)
+      → (n : ℕ) (A : Term) → Called modes p p.grounded n s A → (σ : Subst) → A ≡ sub S σ → Ground (σ v)
   accepted_ground_at_calls = ground_at_calls p (goal_own_shape words p accepted)

@@ -23,15 +23,15 @@ covered_ground p s M A S σ v by h reads o marked =
     rw (agree_sub S σ by.terms e v o) (by.holds v marked)
 
 module _ (p : Program) (own : shape_of p.goal ≡ p.goal) (s : ℕ) (S : Term) (h : Nth (shapes p) s S) (v : ℕ) (o : Occ v S) where
-  pub ground_at_calls : ((M : ℕ) → Least modes p p.ground (call s M) → Has M v)
-      → (n : ℕ) (A : Term) → Called modes p p.ground n s A → (σ : Subst) → A ≡ sub S σ → Ground (σ v)
+  pub ground_at_calls : ((M : ℕ) → Least modes p p.grounded (call s M) → Has M v)
+      → (n : ℕ) (A : Term) → Called modes p p.grounded n s A → (σ : Subst) → A ≡ sub S σ → Ground (σ v)
   ground_at_calls marked n A called σ reads =
-      let (M, row, by) = (least_covers_runs modes modes_sound p p.ground own).calls n s A called in
+      let (M, row, by) = (least_covers_runs modes modes_sound p p.grounded own).calls n s A called in
       covered_ground p s M A S σ v by h reads o (marked M row)
 
   -- and a variable that every solution row of the shape marks, when an atom of the shape is solved
-  pub ground_at_solutions : ((M : ℕ) → Least modes p p.ground (solution s M) → Has M v)
-      → (n : ℕ) (A : Term) → Solved modes p p.ground n s A → (σ : Subst) → A ≡ sub S σ → Ground (σ v)
+  pub ground_at_solutions : ((M : ℕ) → Least modes p p.grounded (solution s M) → Has M v)
+      → (n : ℕ) (A : Term) → Solved modes p p.grounded n s A → (σ : Subst) → A ≡ sub S σ → Ground (σ v)
   ground_at_solutions marked n A solved σ reads =
-      let (M, row, by) = (least_covers_runs modes modes_sound p p.ground own).solutions n s A solved in
+      let (M, row, by) = (least_covers_runs modes modes_sound p p.grounded own).solutions n s A solved in
       covered_ground p s M A S σ v by h reads o (marked M row)

@@ -26,14 +26,14 @@ table_trusted words reply table rest p entries f t e z =
       p = p;
       says = f;
       rows = λ row. (from row, there row);
-      covers = covers_within modes p p.ground (Least modes p p.ground) (StandsIn reply.count table) there (accepted_covers_runs words p f);
+      covers = covers_within modes p p.grounded (Least modes p p.grounded) (StandsIn reply.count table) there (accepted_covers_runs words p f);
       ground_at_calls = λ s S at v occ every. accepted_ground_at_calls words p f s S at v occ (λ M least. every M (there (call s M) least));
     }
   where
-    there : (row : Row ℕ) → Least modes p p.ground row → StandsIn reply.count table row
+    there : (row : Row ℕ) → Least modes p p.grounded row → StandsIn reply.count table row
     there row least = rw e (rw z ((stands_least (mode_analysis p) (modes_computes p) entries rest t row).1 least))
 
-    from : (row : Row ℕ) → StandsIn reply.count table row → Least modes p p.ground row
+    from : (row : Row ℕ) → StandsIn reply.count table row → Least modes p p.grounded row
     from row stands = (stands_least (mode_analysis p) (modes_computes p) entries rest t row).0 (rw z at (rw e at stands))
 
 -- what the analysis promises is to be trusted

@@ -24,9 +24,9 @@ pub record Trusted (words : List ℕ) (reply : Reply) (table : List ℕ) : Type 
   pub p : Program
   pub says : faults words ≡ sound p
   -- the rows in the table are those of the least set
-  pub rows : (row : Row ℕ) → StandsIn reply.count table row ↔ Least modes p p.ground row
+  pub rows : (row : Row ℕ) → StandsIn reply.count table row ↔ Least modes p p.grounded row
   -- they cover every run
-  pub covers : CoversRuns modes p p.ground (StandsIn reply.count table)
+  pub covers : CoversRuns modes p p.grounded (StandsIn reply.count table)
   -- a variable of a shape that every call row of that shape in the table marks has a ground term at every call of that shape
   pub ground_at_calls : (s : ℕ) (S : Term) → Nth (shapes p) s S → (v : ℕ) → Occ v S → ((M : ℕ) → StandsIn reply.count table (call s M) → Has M v)
-      → (n : ℕ) (A : Term) → Called modes p p.ground n s A → (σ : Subst) → A ≡ sub S σ → Ground (σ v)
+      → (n : ℕ) (A : Term) → Called modes p p.grounded n s A → (σ : Subst) → A ≡ sub S σ → Ground (σ v)

@@ -35,7 +35,7 @@ cells_among words a =
     let e = ap length (said_words words a) in
     let b = bodies_words p.clauses in
     let s = words_short words a in
-    let modes : List ℕ = after 0 p.goal ∷ modes_of (after 0 p.goal) p.ground in
+    let modes : List ℕ = after 0 p.goal ∷ modes_of (after 0 p.goal) p.grounded in
     omega (
       arith,
       length-append p.predicates (p.functions ++ (encode_clauses p.clauses ++ goal_part p)),

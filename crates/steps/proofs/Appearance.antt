@@ -107,11 +107,14 @@ module _ {seen order : List ℕ} {s n : ℕ} (h : Ordered seen order s n) where
             same x = (⊎_elim (Memᴰ.append_left (v ∷ [])) (λ (e : x ≡ v). Memᴰ.append_right seen (Memᴰ.head e)), in_extended x)
 
 -- an element stands at one place of a list that has each once
+nth_once_at : {l : List ℕ} {i j : ℕ} {a b : ℕ} → Distinct l → a ≡ b → Nth l i a → Nth l j b → i ≡ j
+nth_once_at d e here here = refl
+nth_once_at d e here (there q) = absurd (d.0 (rw e (nth_member q)))
+nth_once_at d e (there q) here = absurd (d.0 (rw (← e) (nth_member q)))
+nth_once_at d e (there q) (there r) = ap suc (nth_once_at d.1 e q r)
+
 pub nth_once : {l : List ℕ} {i j : ℕ} {a : ℕ} → Distinct l → Nth l i a → Nth l j a → i ≡ j
-nth_once d here here = refl
-nth_once d here (there q) = absurd (d.0 (nth_member q))
-nth_once d (there q) here = absurd (d.0 (nth_member q))
-nth_once d (there q) (there r) = ap suc (nth_once d.1 q r)
+nth_once d q r = nth_once_at d refl q r
 
 module _ (A : Term) {order : List ℕ} {s n : ℕ} (h : Ordered (met [] A) order s n) where
   listed : (k : ℕ) → k < n → get_or order k 0 ≡ get_or (met [] A) k 0

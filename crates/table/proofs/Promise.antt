@@ -70,7 +70,7 @@ module _ (p : Program) where
   abbrev pub table_at : ℕ → List Entry
   table_at = computed_table (mode_analysis p) (modes_computes p)
 
-  pub computed_table_law : (k : ℕ) (entries : List Entry) → rows_at modes modes_lists p p.ground (suc k) ≡ rows_at modes modes_lists p p.ground k → table_at k ≡ entries → TableOf p entries
+  pub computed_table_law : (k : ℕ) (entries : List Entry) → rows_at modes modes_lists p p.grounded (suc k) ≡ rows_at modes modes_lists p p.grounded k → table_at k ≡ entries → TableOf p entries
   computed_table_law = computed_is_table (mode_analysis p) (modes_computes p)
 
   pub more_than_length : (entries : List Entry) → TableOf p entries → (n : ℕ) → MoreThan p n ↔ (n < length entries)

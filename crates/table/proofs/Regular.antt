@@ -64,13 +64,13 @@ module _ (words : List ℕ) (p : Program) (accepted : faults words ≡ sound p) 
   small : (M : ℕ) → ((v : ℕ) → Has M v → v < variables) → M < masks
   small M h = marks_below 16 M h
 
-  pub goal_regular : Regular p (call 0 p.ground)
-  goal_regular = regular_call (goal_shape p) marked (small p.ground (λ v o. shape_variables p within (goal_shape p) v (marked v o)))
+  pub goal_regular : Regular p (call 0 p.grounded)
+  goal_regular = regular_call (goal_shape p) marked (small p.grounded (λ v o. shape_variables p within (goal_shape p) v (marked v o)))
     where
-      marked : (v : ℕ) → Has p.ground v → Occ v (shape_of p.goal)
+      marked : (v : ℕ) → Has p.grounded v → Occ v (shape_of p.goal)
       marked v o = rw (goal_own_shape words p accepted)
           (⊎_elim (λ (l : v < 0). absurd (omega arith)) (λ (o' : Occ v p.goal). o')
-          (numbered_occurs p.goal 0 within.goal_numbered v (has_below (after 0 p.goal) p.ground v within.marks o)))
+          (numbered_occurs p.goal 0 within.goal_numbered v (has_below (after 0 p.goal) p.grounded v within.marks o)))
 
   -- the variables of a clause's lists are at most 15
   listed_variables : {k : ℕ} {c : Clause} → Nth p.clauses k c → (i v : ℕ) → Listed c i v → v < variables
@@ -91,5 +91,5 @@ module _ (words : List ℕ) (p : Program) (accepted : faults words ≡ sound p) 
       marked (regular_call hs' w l) v o = ⊎_elim (λ (o' : _). subst (Occ v) (nth_same hs' hs) (w v o')) (λ (o' : _). o') (pass_within passed v o)
 
   -- "A cont mask has no bit outside its list", and no row has a bit of a variable that is not there
-  pub at_regular : (k : ℕ) (row : Row ℕ) → At modes p p.ground k row → Regular p row
-  at_regular = at_within modes p p.ground (Regular p) regular_closed goal_regular
+  pub at_regular : (k : ℕ) (row : Row ℕ) → At modes p p.grounded k row → Regular p row
+  at_regular = at_within modes p p.grounded (Regular p) regular_closed goal_regular

@@ -10,5 +10,5 @@ use Rattle.table.proofs.RulesOf.{Within}
 use Rattle.table.proofs.RuleLaws.{gives_finitary}
 use Rattle.table.proofs.Tables.{last_is_table}
 
-pub rounded_table : (p : Program) (k : ℕ) → Within (At modes p p.ground (suc k)) (At modes p p.ground k) → (entries : List Entry) → Ascending entries → Rounded p k entries → TableOf p entries
+pub rounded_table : (p : Program) (k : ℕ) → Within (At modes p p.grounded (suc k)) (At modes p p.grounded k) → (entries : List Entry) → Ascending entries → Rounded p k entries → TableOf p entries
 rounded_table p = last_is_table (mode_analysis p) (gives_finitary modes p)

@@ -32,7 +32,7 @@ legs = record {
       ∷ record { head = two 1 (app 1 nil) (var 0); body = [] }
       ∷ [];
   goal = two 0 (var 0) (var 1);
-  ground = 1;
+  grounded = 1;
 }
 
 pub legs_shapes : shapes legs ≡ two 0 (var 0) (var 1) ∷ two 1 (var 0) (var 1) ∷ []
@@ -64,7 +64,7 @@ late = record {
       ∷ record { head = two 1 (var 0) (var 0); body = [] }
       ∷ [];
   goal = one 0 (var 0);
-  ground = 1;
+  grounded = 1;
 }
 
 -- "*Late call*": "nine rows, solutions of p with masks 0 (round 2), 1 and 3 (round 4)"

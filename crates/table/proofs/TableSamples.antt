@@ -86,7 +86,7 @@ late_accepted = listed late late_entries late_read late_table (omega arith) refl
 
 -- "words 1 0 0 0 0 0 (one row)"
 abbrev pub least : Program
-least = record { predicates = 0 ∷ []; functions = []; clauses = []; goal = app 0 nil; ground = 0 }
+least = record { predicates = 0 ∷ []; functions = []; clauses = []; goal = app 0 nil; grounded = 0 }
 
 least_computed : table_at least 0 ≡ entry 0 (call 0 0) ∷ []
 unfolding ℕ_discrete dec_lt modes_lists listed_decided member_decided sort

@@ -21,11 +21,11 @@ pub record AllKeys (p : Program) (T : Row ℕ → Type 0) (ks : List ℕ) : Type
 
 -- the keys of the rows of round k, and of those that it looks at
 abbrev pub RoundKeys : Program → ℕ → List ℕ → Type 0
-RoundKeys p k ks = AllKeys p (At modes p p.ground k) ks
+RoundKeys p k ks = AllKeys p (At modes p p.grounded k) ks
 
 abbrev pub Looked : Program → ℕ → ℕ → Type 0
-Looked p k = Keyed p (NewGives modes p (Earlier modes p p.ground k) (At modes p p.ground k))
+Looked p k = Keyed p (NewGives modes p (Earlier modes p p.grounded k) (At modes p p.grounded k))
 
 -- the entries are those of the rows of the rounds up to k, each with its round
 abbrev pub Rounded : Program → ℕ → List Entry → Type 0
-Rounded p k entries = (e : Entry) → Memᴰ e entries ↔ ((e.round ≤ k) × First modes p p.ground e.round e.row)
+Rounded p k entries = (e : Entry) → Memᴰ e entries ↔ ((e.round ≤ k) × First modes p p.grounded e.round e.row)

@@ -22,7 +22,7 @@ mask (solution s M) = M
 
 -- the rows that the mode rules give from the goal's call
 abbrev pub mode_analysis : Program → Analysis
-mode_analysis p = record { Row = Row ℕ; start = call 0 p.ground; Rules = Gives modes p; words = row_words; size = row_size }
+mode_analysis p = record { Row = Row ℕ; start = call 0 p.grounded; Rules = Gives modes p; words = row_words; size = row_size }
 
 -- a row with its round
 abbrev pub Entry : Type 0

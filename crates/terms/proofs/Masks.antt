@@ -8,7 +8,7 @@ use mathlib.Core.Logic.{◌↔◌, ◌⊎◌, inl, inr, ⊎_map}
 use lib.Arith.{half_le}
 use lib.Bits.{bit_and, bit_or, and_step, or_step, and_shr, or_shr}
 use lib.Pow.{pow_mono}
-use Rattle.terms.specs.Mask.{any, ground, mark_of, Has, Marks}
+use Rattle.terms.specs.Mask.{any, grounded, mark_of, Has, Marks}
 
 -- whether a mask marks a variable
 unfoldable pub has_decided : (m v : ℕ) → Dec (Has m v)
@@ -16,10 +16,10 @@ unfolding ℕ_discrete
 has_decided m v = ℕ_discrete (m / 2 ^ v % 2) 1
 
 -- a mask's mark is any or ground
-pub mark_any_or_ground : (m v : ℕ) → (mark_of m v ≡ any) ⊎ (mark_of m v ≡ ground)
-mark_any_or_ground m v = at (ℕ_discrete (mark_of m v) ground)
+pub mark_any_or_ground : (m v : ℕ) → (mark_of m v ≡ any) ⊎ (mark_of m v ≡ grounded)
+mark_any_or_ground m v = at (ℕ_discrete (mark_of m v) grounded)
   where
-    at : Dec (mark_of m v ≡ ground) → (mark_of m v ≡ any) ⊎ (mark_of m v ≡ ground)
+    at : Dec (mark_of m v ≡ grounded) → (mark_of m v ≡ any) ⊎ (mark_of m v ≡ grounded)
     at (yes h) = inr h
     at (no n) = inl (omega arith)
 

@@ -5,8 +5,8 @@ use Rattle.std.specs.Prelude.{ℕ, ◌/◌, ◌%◌, ◌^◌, ◌≡◌, ◌↔�
 abbrev pub any : ℕ
 any = 0
 
-abbrev pub ground : ℕ
-ground = 1
+abbrev pub grounded : ℕ
+grounded = 1
 
 -- the mark that a mask has for variable v
 abbrev pub mark_of : ℕ → ℕ → ℕ
@@ -14,7 +14,7 @@ mark_of mask v = mask / 2 ^ v % 2
 
 -- "A mask has bit v set where variable v is ground." A set of variables is kept the same way: bit v is set where v is in it.
 abbrev pub Has : ℕ → ℕ → Type 0
-Has mask v = mark_of mask v ≡ ground
+Has mask v = mark_of mask v ≡ grounded
 
 -- the mask that marks exactly the variables of which P holds; there is at most one
 abbrev pub Marks : (ℕ → Type 0) → ℕ → Type 0

@@ -79,11 +79,11 @@ number_of ds = cond (is_number ds) (Value (capped ds)) None
 
 -- "`V` or `G` with any larger number is well formed"
 abbrev pub signed : Bool → Number → Token
-signed ground None = Wrong
-signed ground (Value n) = Variable ground n
+signed grounded None = Wrong
+signed grounded (Value n) = Variable grounded n
 
 abbrev pub variable_of : Bool → List ℕ → Token
-variable_of ground ds = signed ground (number_of ds)
+variable_of grounded ds = signed grounded (number_of ds)
 
 -- "Variables are `V0` to `V15`; in the query `G` instead of `V` marks ground."
 abbrev pub sign_of : Bool → ℕ → List ℕ → Token

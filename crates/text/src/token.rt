@@ -11,7 +11,7 @@ pub const TOO_LARGE: usize = 99;
 pub enum Token {
     Wrong,
     Name,
-    Variable { ground: bool, number: usize },
+    Variable { grounded: bool, number: usize },
 }
 
 #[derive(Drop)]
@@ -120,13 +120,13 @@ pub fn number_of(s: &[u8], from: usize) -> Number
     Number::Value(value(s, from))
 }
 
-fn variable_of(s: &[u8], ground: bool) -> Token
+fn variable_of(s: &[u8], grounded: bool) -> Token
     requires { 0 < length s.now }
-    ensures { result ≡ variable_of ground (drop 1 s.now) }
+    ensures { result ≡ variable_of grounded (drop 1 s.now) }
 {
     match number_of(s, 1) {
         Number::None => Token::Wrong,
-        Number::Value(number) => Token::Variable { ground, number },
+        Number::Value(number) => Token::Variable { grounded, number },
     }
 }
 

@@ -62,7 +62,7 @@ module _ (words : List ℕ) (a : Accepted words) (p f n : ℕ) (p-is : p ≡ get
   goal_to_come at e =
       record {
         goal = program.goal;
-        ground = program.ground;
+        grounded = program.grounded;
         cut = e;
         sound = rw (predicates_said, functions_said) (said_within words a).goal_atom;
         numbered = (said_within words a).goal_numbered;
@@ -73,6 +73,6 @@ module _ (words : List ℕ) (a : Accepted words) (p f n : ℕ) (p-is : p ≡ get
       → declarations pred names 0 predicates
       ++ (declarations func names (length predicates) functions
       ++ (clause_lines names (length predicates) program.clauses
-      ++ line query (atom_tokens names (length predicates) (modes_of (after 0 program.goal) program.ground) (enc program.goal))))
+      ++ line query (atom_tokens names (length predicates) (modes_of (after 0 program.goal) program.grounded) (enc program.goal))))
       ≡ text_of program names
   text_said names = rw (predicates_said, functions_said)

@@ -19,7 +19,7 @@ text_of p names =
     declarations pred names 0 p.predicates
     ++ (declarations func names (length p.predicates) p.functions
     ++ (clause_lines names (length p.predicates) p.clauses
-    ++ line query (atom_tokens names (length p.predicates) (modes_of (after 0 p.goal) p.ground) (enc p.goal))))
+    ++ line query (atom_tokens names (length p.predicates) (modes_of (after 0 p.goal) p.grounded) (enc p.goal))))
 
 abbrev pub written : List ℕ → Found Program → Read (List ℕ)
 written names (fault number place) = wrong number place

@@ -55,5 +55,5 @@ module _ (words : List ℕ) (at : ℕ) (predicates functions : List ℕ) (a : Go
   pub query_within : end + 1 + get_or words end 0 ≤ length words
   query_within = rw e (modes_within words at predicates functions a (length (enc a.goal)) refl)
 
-  pub query_modes : (count : ℕ) → count ≡ get_or words end 0 → take (end + 1 + count - (end + 1)) (drop (end + 1) words) ≡ modes_of (after 0 a.goal) a.ground
+  pub query_modes : (count : ℕ) → count ≡ get_or words end 0 → take (end + 1 + count - (end + 1)) (drop (end + 1) words) ≡ modes_of (after 0 a.goal) a.grounded
   query_modes count q = rw e (modes_are words at predicates functions a (length (enc a.goal)) refl count (rw e at q))

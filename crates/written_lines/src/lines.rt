@@ -118,7 +118,7 @@ pub fn put_query(
     names: &[u8],
 ) -> usize
     requires { (GoalFrom words.now at predicates.now functions.now) × (Named names.now (length predicates.now) (length functions.now)) × (length words.now ≤ max_words) }
-    ensures { (a : GoalFrom words.now at predicates.now functions.now) → Put (line query (atom_tokens names.now (length predicates.now) (modes_of (after 0 a.goal) a.ground) (enc a.goal))) out.old out.new from result }
+    ensures { (a : GoalFrom words.now at predicates.now functions.now) → Put (line query (atom_tokens names.now (length predicates.now) (modes_of (after 0 a.goal) a.grounded) (enc a.goal))) out.old out.new from result }
 {
     let variables = at + atom_cells(words, at, predicates, functions);
     let first = variables + 1;

@@ -24,7 +24,7 @@ returns-in-Symbol c = let a = c.args in record {
 
 pub returns-in-Variable : goal.returns-in-Variable
 returns-in-Variable c = let a = c.args in record {
-  taken_as = λ ns ws ms out front k st. taken_variable (symbols_in a.c ns ws) a.query a.s.now st c.in-Variable.number c.in-Variable.ground c.after_variable.result c.variable_cell.result c.meet.new.modes c.put-in-Variable.new.words
+  taken_as = λ ns ws ms out front k st. taken_variable (symbols_in a.c ns ws) a.query a.s.now st c.in-Variable.number c.in-Variable.grounded c.after_variable.result c.variable_cell.result c.meet.new.modes c.put-in-Variable.new.words
       (look_of_stands ns ws a.c a.names.now a.hashes.now a.arities.now c.requires.0 k a.query a.p ms out a.modes.now a.s.now c.look_at.result st.mode_room (c.look_at.ensures k.hashed)
       ∙ c.in-Variable.is) c.after_variable.ensures.0 c.variable_cell.ensures c.put-in-Variable.ensures c.meet.ensures;
   grows = (c.after_variable.ensures.1, ap (λ (q : Progress). q.words) c.after_variable.ensures.0);

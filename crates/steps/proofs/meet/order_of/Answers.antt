@@ -14,6 +14,7 @@ use Rattle.directory.specs.Numbers.{met_cells}
 use Rattle.directory.proofs.Numbering.{met_cells_next}
 use Rattle.steps.proofs.Appearance.{Ordered, none_ordered, ordered_few, function_ordered, old_ordered, room_left, new_ordered, run_cells, run_in_order}
 use Rattle.steps.proofs.meet.order_of.Goals as goal
+use Rattle.steps.proofs.meet.order_of.Goals.{then-cell-ge-FIRST_VARIABLE+then-not-has, then-cell-ge-FIRST_VARIABLE+else-not-has, else-cell-ge-FIRST_VARIABLE}
 
 pub has-requires : goal.has-requires
 has-requires c = let i = c.loop-i.i in
@@ -46,12 +47,22 @@ loop-i-preserved c = let R = c.args.atom.now in
     let inv = c.loop-i.invariant in
     let less = c.loop-i-test.true in
     let small = run_cells R c.requires.0 i less in
-    ⊎_elim
-    (λ w. (omega arith, rw (w.5, w.6, w.7, w.4.ensures, w.1.ensures.0, met_cells_next R i less) (new_ordered inv.1 (get_or R i 0) w.0.taken small (λ h. rw (not-true w.2.result w.3.taken) at (w.2.ensures.1 (rw w.1.ensures.0 h))))))
-    (⊎_elim
-    (λ w. (omega arith, rw (w.4, w.5, w.6, met_cells_next R i less) (old_ordered inv.1 (get_or R i 0) w.0.taken small (rw w.1.ensures.0 at (w.2.ensures.0 (rw (not-false w.2.result w.3.left) tt))))))
-    (λ w. (omega arith, rw (w.1, w.2, w.3, met_cells_next R i less) (function_ordered inv.1 (get_or R i 0) w.0.left))))
-    c.if-cell-ge-FIRST_VARIABLE.branch
+    elim c.if-cell-ge-FIRST_VARIABLE.branch [
+      | then-cell-ge-FIRST_VARIABLE+then-not-has w ↦ (
+        omega arith,
+        rw (w.order-is, w.met-is, w.count-is, w.only-met.ensures, w.wide-v.ensures.0, met_cells_next R i less)
+            (new_ordered inv.1 (get_or R i 0) w.if-cell-ge-FIRST_VARIABLE.true small (λ h. rw (not-true w.has.result w.if-not-has.true-raw) at (w.has.ensures.1 (rw w.wide-v.ensures.0 h)))),
+      )
+      | then-cell-ge-FIRST_VARIABLE+else-not-has w ↦ (
+        omega arith,
+        rw (w.order-is, w.met-is, w.count-is, met_cells_next R i less)
+            (old_ordered inv.1 (get_or R i 0) w.if-cell-ge-FIRST_VARIABLE.true small (rw w.wide-v.ensures.0 at (w.has.ensures.0 (rw (not-false w.has.result w.if-not-has.false-raw) tt)))),
+      )
+      | else-cell-ge-FIRST_VARIABLE w ↦ (
+        omega arith,
+        rw (w.order-is, w.met-is, w.count-is, met_cells_next R i less) (function_ordered inv.1 (get_or R i 0) w.if-cell-ge-FIRST_VARIABLE.false),
+      )
+    ]
 
 pub returns : goal.returns
 returns c = let R = c.args.atom.now in let i = c.loop-i.i in
