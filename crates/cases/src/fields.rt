@@ -1,69 +1,67 @@
 // Fields and lines on standard output.
-ghost use Rattle.std.specs.Prelude.{◌≡◌, cond, ◌≤◌};
+ghost use Rattle.std.specs.Prelude.{◌≡◌, cond, ◌≤◌, IfOk};
 
 use crate::{print, print_words};
-use libc::STDOUT_FILENO;
+use std::io;
 use terms::walk::wide;
 use text::cut::TAB;
 use text::name::NAME_BYTES;
 
-pub fn print_byte(b: u8) {
+pub fn print_byte(rt: &impl Print, b: u8) -> io::Result<()> {
     let shown = [b];
-    io::write_all(STDOUT_FILENO, &shown);
+    rt.write_all(&shown)
 }
 
-pub fn print_field(n: usize) {
-    print_byte(TAB);
-    io::print_decimal(STDOUT_FILENO, n as u64);
+pub fn print_field(rt: &impl Print, n: usize) -> io::Result<()> {
+    print_byte(rt, TAB)?;
+    print!(rt; "{n}")
 }
 
-pub fn print_refused(number: u16, place: usize) {
-    io::write_all(STDOUT_FILENO, b"\trefused");
-    print_field(wide(number));
-    print_field(place);
+pub fn print_refused(rt: &impl Print, number: u16, place: usize) -> io::Result<()> {
+    rt.write_all(b"\trefused")?;
+    print_field(rt, wide(number))?;
+    print_field(rt, place)
 }
 
 // Whether what was compared is the same; how many are: one or none.
-pub fn print_same(same: bool) -> usize
-    ensures { (result ≡ cond same 1 0) × (result ≤ 1) }
+pub fn print_same(rt: &impl Print, same: bool) -> io::Result<usize>
+    ensures { IfOk result (λ n. (n ≡ cond same 1 0) × (n ≤ 1)) }
 {
     if same {
-        io::write_all(STDOUT_FILENO, b"\tsame");
-        return 1;
+        rt.write_all(b"\tsame")?;
+        return Ok(1);
     }
-    io::write_all(STDOUT_FILENO, b"\tdiffers");
-    0
+    rt.write_all(b"\tdiffers")?;
+    Ok(0)
 }
 
 // Byte i of the names: a tab before each name, and a dot for a zero behind it.
-fn print_name_byte(i: usize, b: u8) {
+fn print_name_byte(rt: &impl Print, i: usize, b: u8) -> io::Result<()> {
     if i % NAME_BYTES == 0 {
-        print_byte(TAB);
+        print_byte(rt, TAB)?;
     }
     if b == 0 {
-        print_byte(b'.');
-        return;
+        return print_byte(rt, b'.');
     }
-    print_byte(b);
+    print_byte(rt, b)
 }
 
-fn print_names(names: &[u8]) {
-    let mut i = 0;
-    while i < names.len() {
-        print_name_byte(i, names[i]);
-        i += 1;
+fn print_names(rt: &impl Print, names: &[u8]) -> io::Result<()> {
+    for (i, b) in names.iter().enumerate() {
+        print_name_byte(rt, i, *b)?;
     }
+    Ok(())
 }
 
 // The lines of an encoded program with its names.
-pub fn print_program(words: &[u16], names: &[u8]) {
-    io::write_all(STDOUT_FILENO, b"\nwords ");
-    print_words(words);
-    io::write_all(STDOUT_FILENO, b"\nnames");
-    print_names(names);
+pub fn print_program(rt: &impl Print, words: &[u16], names: &[u8]) -> io::Result<()> {
+    rt.write_all(b"\nwords ")?;
+    print_words(rt, words)?;
+    rt.write_all(b"\nnames")?;
+    print_names(rt, names)
 }
 
-pub fn print_tally(agreed: usize, tried: usize) {
-    print(agreed, b" of ");
-    print(tried, b" agree\n");
+pub fn print_tally(rt: &impl Print, agreed: usize, tried: usize) -> io::Result<()> {
+    print(rt, agreed, b" of ")?;
+    print(rt, tried, b" agree\n")
 }

@@ -4,9 +4,10 @@
 pub mod fields;
 pub mod files;
 
-ghost use Rattle.std.specs.Prelude.{◌≤◌, min, ◌≡◌, false, length};
+ghost use Rattle.std.specs.Prelude.{◌≤◌, min, ◌≡◌, false, length, IfOk};
 
-use libc::{STDIN_FILENO, STDOUT_FILENO};
+use std::io;
+use std::io::Read;
 use terms::walk::wide;
 
 const MOST: usize = 65535;
@@ -29,17 +30,16 @@ struct Line {
     reading: bool,
 }
 
-pub fn print(n: usize, end: &[u8]) {
-    io::print_decimal(STDOUT_FILENO, n as u64);
-    io::write_all(STDOUT_FILENO, end);
+pub fn print(rt: &impl Print, n: usize, end: &[u8]) -> io::Result<()> {
+    print!(rt; "{n}")?;
+    rt.write_all(end)
 }
 
-pub fn print_words(words: &[u16]) {
-    let mut i = 0;
-    while i < words.len() {
-        print(wide(words[i]), b" ");
-        i += 1;
+pub fn print_words(rt: &impl Print, words: &[u16]) -> io::Result<()> {
+    for word in words {
+        print(rt, wide(*word), b" ")?;
     }
+    Ok(())
 }
 
 pub fn least(a: usize, b: usize) -> usize
@@ -114,27 +114,31 @@ pub fn start() -> Input
 }
 
 // Reads on where all bytes of the buffer are read.
-fn filled(buffer: &mut [u8], input: Input) -> Input
+fn filled<R: Read>(from: &mut R, buffer: &mut [u8], input: Input) -> io::Result<Input>
     requires { input.end ≤ length buffer.old }
-    ensures { result.end ≤ length buffer.old }
+    ensures { IfOk result (λ now. now.end ≤ length buffer.old) }
 {
     if input.at < input.end {
-        return input;
+        return Ok(input);
     }
-    let got = libc::read(STDIN_FILENO, buffer);
-    let end = io::count(got, buffer);
-    Input {
+    let end = from.read(buffer)?;
+    Ok(Input {
         at: 0,
         end,
         count: 0,
         over: false,
-    }
+    })
 }
 
-// Reads the next line into the words. A proved loop has to end, and nothing says that the input does: the turns are counted down.
-pub fn next(words: &mut [u16], buffer: &mut [u8], input: Input) -> Input
+// Reads the next line into the words. A proved loop has to end, and nothing says that the input does: the turns are counted.
+pub fn next<R: Read>(
+    from: &mut R,
+    words: &mut [u16],
+    buffer: &mut [u8],
+    input: Input,
+) -> io::Result<Input>
     requires { input.end ≤ length buffer.old }
-    ensures { (result.end ≤ length buffer.old) × (result.count ≤ length words.old) }
+    ensures { IfOk result (λ now. (now.end ≤ length buffer.old) × (now.count ≤ length words.old)) }
 {
     let mut now = input;
     let mut line = Line {
@@ -142,9 +146,8 @@ pub fn next(words: &mut [u16], buffer: &mut [u8], input: Input) -> Input
         value: 0,
         reading: false,
     };
-    let mut turns = u64::MAX;
-    while 0 < turns {
-        now = filled(buffer, now);
+    for _ in 0..u64::MAX {
+        now = filled(from, buffer, now)?;
         let at = now.at;
         let end = now.end;
         if end <= at {
@@ -153,21 +156,20 @@ pub fn next(words: &mut [u16], buffer: &mut [u8], input: Input) -> Input
         let byte = buffer[at];
         if byte == b'\n' {
             let count = ended(words, line);
-            return Input {
+            return Ok(Input {
                 at: at + 1,
                 end,
                 count,
                 over: false,
-            };
+            });
         }
         line = taken(words, line, byte);
         now.at = at + 1;
-        turns -= 1;
     }
-    Input {
+    Ok(Input {
         at: 0,
         end: 0,
         count: 0,
         over: true,
-    }
+    })
 }

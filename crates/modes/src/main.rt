@@ -2,16 +2,18 @@
 // said on standard error.
 #![tactic(auto)]
 
-use libc::{STDIN_FILENO, STDOUT_FILENO};
+use intake::read_full;
 use printing::print::print;
+use std::io;
 
-fn main() {
+fn main(rt: HostRuntime) -> io::Result<()> {
     // one byte more than the longest text, so that a longer one is seen to be too long
     let mut text = [0u8; 40961];
-    let mut out = io::large_buffer();
-    let size = io::read_full(STDIN_FILENO, &mut text);
+    let mut out = [0u8; 65536];
+    let size = read_full(&mut rt.stdin(), &mut text)?;
     let end = print(&text[..size], &mut out);
-    if !io::write_all(STDOUT_FILENO, &out[..end]) {
-        os::fail(b"modes: cannot write");
+    if let Err(error) = rt.write_all(&out[..end]) {
+        eprintln!(rt; "modes: cannot write: {error}")?;
     }
+    Ok(())
 }

@@ -10,59 +10,59 @@ ghost use Rattle.directory.specs.Layout.{dir_words};
 
 use cases::{least, next, print, print_words};
 use directory::layout::{DIR_WORDS, MAX_SHAPES, SHAPE_CELLS, SHAPE_COUNT, SHAPE_START, SHAPE_VARS};
-use libc::STDOUT_FILENO;
 use program::reply::ACCEPTED;
 use shaping::directory;
+use std::io;
 use terms::walk::wide;
 
-fn shape(dir: &[u16], s: usize)
+fn shape(rt: &impl Print, dir: &[u16], s: usize) -> io::Result<()>
     requires { (length dir.now ≡ dir_words) × (s < max_shapes) }
 {
     let from = least(wide(dir[SHAPE_START + s]), 2048);
     let to = least(wide(dir[SHAPE_START + s + 1]), 2048);
-    io::write_all(STDOUT_FILENO, b"| ");
-    print(wide(dir[SHAPE_VARS + s]), b" ");
+    rt.write_all(b"| ")?;
+    print(rt, wide(dir[SHAPE_VARS + s]), b" ")?;
     if from <= to {
-        print_words(&dir[SHAPE_CELLS + from..SHAPE_CELLS + to]);
+        print_words(rt, &dir[SHAPE_CELLS + from..SHAPE_CELLS + to])?;
     }
+    Ok(())
 }
 
-fn shapes(words: &[u16])
+fn shapes(rt: &impl Print, words: &[u16]) -> io::Result<()>
     requires { (p : Program) × (faults words.now ≡ sound p) }
 {
     let mut dir = [0u16; DIR_WORDS];
     directory(words, &mut dir);
     let count = least(wide(dir[SHAPE_COUNT]), MAX_SHAPES);
-    let mut s = 0;
-    while s < count {
-        shape(&dir, s);
-        s += 1;
+    for s in 0..count {
+        shape(rt, &dir, s)?;
     }
+    Ok(())
 }
 
-fn reply(words: &[u16]) {
+fn reply(rt: &impl Print, words: &[u16]) -> io::Result<()> {
     let r = program::scan::scan(words);
-    print(r.number as usize, b" ");
-    print(r.place, b" ");
+    print(rt, r.number as usize, b" ")?;
+    print(rt, r.place, b" ")?;
     if r.number == ACCEPTED {
-        shapes(words);
+        shapes(rt, words)?;
     }
-    io::write_all(STDOUT_FILENO, b"\n");
+    rt.write_all(b"\n")
 }
 
-fn main() {
+fn main(rt: HostRuntime) -> io::Result<()> {
     // one word more than a program may have, so that a longer line is too long
     let mut words = [0u16; 2049];
-    let mut buffer = io::buffer();
+    let mut buffer = [0u8; 4096];
+    let mut stdin = rt.stdin();
     let mut input = cases::start();
-    let mut turns = u64::MAX;
-    while 0 < turns {
-        input = next(&mut words, &mut buffer, input);
+    for _ in 0..u64::MAX {
+        input = next(&mut stdin, &mut words, &mut buffer, input)?;
         if input.over {
-            return;
+            break;
         }
         let count = input.count;
-        reply(&words[..count]);
-        turns -= 1;
+        reply(&rt, &words[..count])?;
     }
+    Ok(())
 }

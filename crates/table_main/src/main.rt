@@ -7,6 +7,7 @@ ghost use Rattle.std.specs.Prelude.{◌≤◌};
 use analysis::analyse::analyse;
 use cases::{least, next, print, print_words};
 use program::limits::{ROW_SIZE, TABLE_WORDS};
+use std::io;
 use terms::walk::wide;
 
 // One where the word is not 0.
@@ -22,47 +23,45 @@ fn other(word: u16) -> usize
 // How many of the words are not 0.
 fn others(words: &[u16]) -> usize {
     let mut count = 0;
-    let mut i = 0;
-    while i < words.len() {
-        count += other(words[i]);
-        i += 1;
+    for word in words {
+        count += other(*word);
     }
     count
 }
 
 // The table still has the words of the case before.
-fn reply(words: &[u16], table: &mut [u16]) {
+fn reply(rt: &impl Print, words: &[u16], table: &mut [u16]) -> io::Result<()> {
     let r = analyse(words, table);
-    print(r.number as usize, b" ");
-    print(r.place, b" ");
-    print(r.count, b" ");
+    print(rt, r.number as usize, b" ")?;
+    print(rt, r.place, b" ")?;
+    print(rt, r.count, b" ")?;
     let end = ROW_SIZE * least(r.count, table.len() / ROW_SIZE);
-    print_words(&table[..end]);
-    print(others(&table[end..]), b"\n");
+    print_words(rt, &table[..end])?;
+    print(rt, others(&table[end..]), b"\n")
 }
 
-fn case(line: &[u16], table: &mut [u16]) {
+fn case(rt: &impl Print, line: &[u16], table: &mut [u16]) -> io::Result<()> {
     if line.len() == 0 {
-        return;
+        return Ok(());
     }
     let size = least(wide(line[0]), table.len());
-    reply(&line[1..], &mut table[..size]);
+    reply(rt, &line[1..], &mut table[..size])
 }
 
-fn main() {
+fn main(rt: HostRuntime) -> io::Result<()> {
     // the length of the table, and one word more than a program may have, so that a longer line is too long
     let mut words = [0u16; 2050];
     let mut table = [0u16; TABLE_WORDS];
-    let mut buffer = io::buffer();
+    let mut buffer = [0u8; 4096];
+    let mut stdin = rt.stdin();
     let mut input = cases::start();
-    let mut turns = u64::MAX;
-    while 0 < turns {
-        input = next(&mut words, &mut buffer, input);
+    for _ in 0..u64::MAX {
+        input = next(&mut stdin, &mut words, &mut buffer, input)?;
         if input.over {
-            return;
+            break;
         }
         let count = input.count;
-        case(&words[..count], &mut table);
-        turns -= 1;
+        case(&rt, &words[..count], &mut table)?;
     }
+    Ok(())
 }

@@ -1,7 +1,7 @@
 // One letter a cell: `A` to `P` is a variable, `a` to `z` the function of that number, and `0` to `8` the predicate with as many arguments.
 ghost use Rattle.std.specs.Prelude.{◌≤◌, ◌≡◌, length, take};
 
-use libc::STDOUT_FILENO;
+use std::io;
 use terms::unifier::{FIRST_VARIABLES, VARIABLES};
 use terms::walk::{FIRST_VARIABLE, has, wide};
 
@@ -35,44 +35,42 @@ pub fn read_cells(letters: &[u8], cells: &mut [u16]) -> usize
 }
 
 // One letter on its way out.
-fn put(letter: u8) {
+fn put(rt: &impl Print, letter: u8) -> io::Result<()> {
     let one = [letter];
-    io::write_all(STDOUT_FILENO, &one);
+    rt.write_all(&one)
 }
 
 // Variable x of the store: those of the second atom have a mark behind their letter.
-pub fn put_variable(x: usize) {
-    put(b'A' + (x % FIRST_VARIABLES) as u8);
+pub fn put_variable(rt: &impl Print, x: usize) -> io::Result<()> {
+    put(rt, b'A' + (x % FIRST_VARIABLES) as u8)?;
     if FIRST_VARIABLES <= x {
-        put(b'\'');
+        put(rt, b'\'')?;
     }
+    Ok(())
 }
 
 // A run of cells of the atom whose variables begin at `base`.
-pub fn put_run(run: &[u16], base: usize)
+pub fn put_run(rt: &impl Print, run: &[u16], base: usize) -> io::Result<()>
     requires { base ≤ 16 }
 {
-    let mut i = 0;
-    while i < run.len() {
-        let cell = run[i];
+    for cell in run {
+        let cell = *cell;
         if cell < FIRST_VARIABLE {
-            put(b'a' + (cell % FUNCTION_LETTERS) as u8);
+            put(rt, b'a' + (cell % FUNCTION_LETTERS) as u8)?;
         } else {
-            put_variable(base + wide(cell - FIRST_VARIABLE));
+            put_variable(rt, base + wide(cell - FIRST_VARIABLE))?;
         }
-        i += 1;
     }
+    Ok(())
 }
 
 // A set of variables of the store.
-pub fn put_set(set: u32) {
-    io::write_all(STDOUT_FILENO, b"{");
-    let mut x = 0;
-    while x < VARIABLES {
+pub fn put_set(rt: &impl Print, set: u32) -> io::Result<()> {
+    rt.write_all(b"{")?;
+    for x in 0..VARIABLES {
         if has(set, x) {
-            put_variable(x);
+            put_variable(rt, x)?;
         }
-        x += 1;
     }
-    io::write_all(STDOUT_FILENO, b"}\n");
+    rt.write_all(b"}\n")
 }

@@ -4,7 +4,7 @@ ghost use Rattle.std.specs.Prelude.{◌≤◌, length};
 use crate::atom::ATOM_CELLS;
 use crate::letters::read_cells;
 use crate::pair::answer;
-use libc::STDOUT_FILENO;
+use std::io;
 
 // Where the next of these bytes stands, or the end.
 fn next(text: &[u8], from: usize, byte: u8) -> usize
@@ -30,7 +30,7 @@ fn past(text: &[u8], at: usize) -> usize
 }
 
 // A line: the name of the case, and two atoms of a letter a cell.
-fn line(text: &[u8]) {
+fn line(rt: &impl Print, text: &[u8]) -> io::Result<()> {
     let name_end = next(text, 0, b'\t');
     let first = past(text, name_end);
     let first_end = next(text, first, b'\t');
@@ -39,20 +39,21 @@ fn line(text: &[u8]) {
     let mut b = [0u16; ATOM_CELLS];
     let m = read_cells(&text[first..first_end], &mut a);
     let n = read_cells(&text[second..], &mut b);
-    io::write_all(STDOUT_FILENO, text);
-    answer(&a[..m], &b[..n]);
+    rt.write_all(text)?;
+    answer(rt, &a[..m], &b[..n])
 }
 
 // Every line of the text, in order.
-pub fn each(text: &[u8]) {
+pub fn each(rt: &impl Print, text: &[u8]) -> io::Result<()> {
     let mut at = 0;
     while at < text.len() {
         let end = next(text, at, b'\n');
-        line(&text[at..end]);
+        line(rt, &text[at..end])?;
         if end < text.len() {
             at = end + 1;
         } else {
             at = end;
         }
     }
+    Ok(())
 }

@@ -7,10 +7,11 @@ mod letters;
 mod lines;
 mod pair;
 
-use libc::STDIN_FILENO;
+use intake::read_full;
+use std::io;
 
-fn main() {
-    let mut text = io::large_buffer();
-    let n = io::read_full(STDIN_FILENO, &mut text);
-    lines::each(&text[..n]);
+fn main(rt: HostRuntime) -> io::Result<()> {
+    let mut text = [0u8; 65536];
+    let n = read_full(&mut rt.stdin(), &mut text)?;
+    lines::each(&rt, &text[..n])
 }

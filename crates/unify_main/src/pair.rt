@@ -6,7 +6,7 @@ ghost use Rattle.unify_main.specs.AtomRun.{AtomRun, WholeBindings};
 
 use crate::atom::is_atom;
 use crate::letters::{put_run, put_set, put_variable};
-use libc::STDOUT_FILENO;
+use std::io;
 use terms::unifier::{FIRST_VARIABLES, NO_PLACE, SECOND_ATOM, resolve, unify};
 use terms::walk::{has, present, wide_byte};
 
@@ -16,19 +16,26 @@ const PREDICATES: [u16; 9] = [0, 1, 2, 3, 4, 5, 6, 7, 8];
 const FUNCTIONS: [u16; 20] = [0, 0, 0, 0, 0, 2, 2, 3, 4, 5, 6, 7, 7, 0, 8, 0, 0, 0, 1, 1];
 
 // What a variable is bound to: "the run of cells itself, in the call's atom or in the clause's atom".
-fn put_binding<'a>(a: &'a [u16], b: &'a [u16], functions: &[u16], place: usize)
+fn put_binding<'a>(
+    rt: &impl Print,
+    a: &'a [u16],
+    b: &'a [u16],
+    functions: &[u16],
+    place: usize,
+) -> io::Result<()>
     requires { (Run functions.now (cells_at a.now b.now place) 1) × (place < 128) }
 {
     let run = resolve(a, b, functions, place);
     if place < SECOND_ATOM {
-        put_run(run, 0);
+        put_run(rt, run, 0)
     } else {
-        put_run(run, FIRST_VARIABLES);
+        put_run(rt, run, FIRST_VARIABLES)
     }
 }
 
 // One line for each variable that is present in the atom whose variables begin at `base`.
 fn put_variables<'a>(
+    rt: &impl Print,
     a: &'a [u16],
     b: &'a [u16],
     functions: &[u16],
@@ -36,57 +43,59 @@ fn put_variables<'a>(
     sets: &[u32; 32],
     variables: u32,
     base: usize,
-)
+) -> io::Result<()>
     requires { WholeBindings functions.now a.now b.now places.now × (base ≤ 16) }
 {
-    let mut v = 0;
-    while v < FIRST_VARIABLES {
+    for v in 0..FIRST_VARIABLES {
         if has(variables, v) {
             let x = base + v;
-            io::write_all(STDOUT_FILENO, b"\t");
-            put_variable(x);
-            io::write_all(STDOUT_FILENO, b"\t");
+            rt.write_all(b"\t")?;
+            put_variable(rt, x)?;
+            rt.write_all(b"\t")?;
             let place = places[x];
             if place < NO_PLACE {
-                put_binding(a, b, functions, wide_byte(place));
+                put_binding(rt, a, b, functions, wide_byte(place))?;
             } else {
-                io::write_all(STDOUT_FILENO, b"-");
+                rt.write_all(b"-")?;
             }
-            io::write_all(STDOUT_FILENO, b"\t");
-            put_set(sets[x]);
+            rt.write_all(b"\t")?;
+            put_set(rt, sets[x])?;
         }
-        v += 1;
     }
+    Ok(())
 }
 
 // Two atoms unified: `apart`, or what each variable of both stands for.
-fn put_unifier<'a>(a: &'a [u16], b: &'a [u16], predicates: &[u16], functions: &[u16])
+fn put_unifier<'a>(
+    rt: &impl Print,
+    a: &'a [u16],
+    b: &'a [u16],
+    predicates: &[u16],
+    functions: &[u16],
+) -> io::Result<()>
     requires { (AtomRun predicates.now functions.now a.now) × (AtomRun predicates.now functions.now b.now) }
 {
     let mut places = [0u8; 32];
     let mut sets = [0u32; 32];
     if !unify(a, b, predicates, functions, &mut places, &mut sets) {
-        io::write_all(STDOUT_FILENO, b"\tapart\n");
-        return;
+        return rt.write_all(b"\tapart\n");
     }
-    io::write_all(STDOUT_FILENO, b"\tunified\n");
+    rt.write_all(b"\tunified\n")?;
     let first = present(&a[1..]);
     let second = present(&b[1..]);
-    put_variables(a, b, functions, &places, &sets, first, 0);
-    put_variables(a, b, functions, &places, &sets, second, FIRST_VARIABLES);
+    put_variables(rt, a, b, functions, &places, &sets, first, 0)?;
+    put_variables(rt, a, b, functions, &places, &sets, second, FIRST_VARIABLES)
 }
 
 // Two runs of cells: only atoms are unified.
-pub fn answer<'a>(a: &'a [u16], b: &'a [u16]) {
+pub fn answer<'a>(rt: &impl Print, a: &'a [u16], b: &'a [u16]) -> io::Result<()> {
     let predicates = PREDICATES;
     let functions = FUNCTIONS;
     if !is_atom(a, &predicates, &functions) {
-        io::write_all(STDOUT_FILENO, b"\tfirst is no atom\n");
-        return;
+        return rt.write_all(b"\tfirst is no atom\n");
     }
     if !is_atom(b, &predicates, &functions) {
-        io::write_all(STDOUT_FILENO, b"\tsecond is no atom\n");
-        return;
+        return rt.write_all(b"\tsecond is no atom\n");
     }
-    put_unifier(a, b, &predicates, &functions);
+    put_unifier(rt, a, b, &predicates, &functions)
 }

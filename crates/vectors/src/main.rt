@@ -8,27 +8,29 @@ mod samples;
 
 use bad_bytes::try_bad_bytes;
 use cases::fields::print_tally;
-use libc::STDIN_FILENO;
+use intake::read_full;
 use samples::try_sample;
+use std::io;
+use std::rt::Files;
 use text::cut::{LINE_FEED, find};
 
 // Every sample that is named.
-fn try_samples(names: &[u8]) {
+fn try_samples(rt: &(impl Files + Print), names: &[u8]) -> io::Result<()> {
     let mut agreed = 0;
     let mut tried = 0;
     let mut at = 0;
     while at < names.len() {
         let end = find(names, at, LINE_FEED);
-        agreed += try_sample(&names[at..end]);
+        agreed += try_sample(rt, &names[at..end])?;
         tried += 1;
         at = end + 1;
     }
-    print_tally(agreed, tried);
+    print_tally(rt, agreed, tried)
 }
 
-fn main() {
-    try_bad_bytes();
-    let mut names = io::large_buffer();
-    let size = io::read_full(STDIN_FILENO, &mut names);
-    try_samples(&names[..size]);
+fn main(rt: HostRuntime) -> io::Result<()> {
+    try_bad_bytes(&rt)?;
+    let mut names = [0u8; 65536];
+    let size = read_full(&mut rt.stdin(), &mut names)?;
+    try_samples(&rt, &names[..size])
 }

@@ -1,40 +1,38 @@
 // What the reader replies to a text, and what it reads.
 use cases::fields::{print_field, print_program, print_refused, print_same};
 use cases::least;
-use check::same;
-use libc::STDOUT_FILENO;
 use program::reply::ACCEPTED;
 use reader::read::read;
+use std::io;
 use terms::walk::wide;
 use text::name::NAME_BYTES;
 use writer::write::write;
 
 // Whether words and names are written again as the text that they were read from.
 fn writes_again(text: &[u8], words: &[u16], names: &[u8]) -> bool {
-    let mut room = io::large_buffer();
+    let mut room = [0u8; 65536];
     let reply = write(words, names, &mut room);
     let end = least(reply.count, 65536);
-    same(&room[..end], text)
+    &room[..end] == text
 }
 
-fn print_accepted(text: &[u8], words: &[u16], names: &[u8]) {
-    io::write_all(STDOUT_FILENO, b"\taccepted");
-    print_field(words.len());
-    print_same(writes_again(text, words, names));
-    print_program(words, names);
+fn print_accepted(rt: &impl Print, text: &[u8], words: &[u16], names: &[u8]) -> io::Result<()> {
+    rt.write_all(b"\taccepted")?;
+    print_field(rt, words.len())?;
+    print_same(rt, writes_again(text, words, names))?;
+    print_program(rt, words, names)
 }
 
 // The reply; of an accepted text also how many words, whether it is written again the same, and the lines of words and names.
-pub fn print_reading(text: &[u8]) {
+pub fn print_reading(rt: &impl Print, text: &[u8]) -> io::Result<()> {
     let mut words = [0u16; 2048];
     let mut names = [0u8; 2048];
     let reply = read(text, &mut words, &mut names);
     if reply.number != ACCEPTED {
-        print_refused(reply.number, reply.place);
-        return;
+        return print_refused(rt, reply.number, reply.place);
     }
     let count = reply.count;
     let program = &words[..count];
     let size = (wide(program[0]) + wide(program[1])) * NAME_BYTES;
-    print_accepted(text, program, &names[..size]);
+    print_accepted(rt, text, program, &names[..size])
 }
