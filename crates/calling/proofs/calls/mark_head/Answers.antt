@@ -12,6 +12,7 @@ use Rattle.steps.proofs.ShapeLinks.{shapes_left}
 use Rattle.calling.proofs.ShapeVisits.{clause_entry, head_in_words}
 use Rattle.calling.proofs.HeadVisits.{asked_clause, asked_head_in_dir, HeadVisiting, head_begins, head_shape, head_few, head_nearer, head_on, head_ends}
 use Rattle.calling.proofs.calls.mark_head.Goals as goal
+use Rattle.calling.proofs.calls.mark_head.Goals.{else-marks_of_shape, then-marks_of_shape}
 
 pub overflow_add-k : goal.overflow_add-k
 overflow_add-k c = let few = asked_head_in_dir c.requires.0 in omega (arith, few.0, few.1)
@@ -80,6 +81,12 @@ pub loop-link-smaller : goal.loop-link-smaller
 loop-link-smaller c = let a = c.requires.0 in
     head_nearer a.situation a.clause _ _ _ _ (c.loop-link.invariant.1 a.situation a.clause) c.loop-link-test.true _ c.wide-link-in-loop-link.ensures.0
 
+pub returns : goal.returns
+returns c = (
+  λ w. let b = asked_clause c.requires.0 w in head_ends w b _ _ _ _ (c.loop-link.invariant.1 w b) c.loop-link-test.false,
+  rw (c.wide-start.ensures.0, c.wide-cells.ensures.0) at c.loop-link.invariant.3,
+)
+
 pub loop-link-preserved : goal.loop-link-preserved
 loop-link-preserved c = (
   c.marks_of_shape.auto.found ∙ c.loop-link.invariant.0,
@@ -87,14 +94,8 @@ loop-link-preserved c = (
       let v = c.loop-link.invariant.1 w b in
       let some = c.loop-link-test.true in
       let (marked, told) = c.marks_of_shape.ensures.0 (head_shape w b _ _ _ _ v some) in
-      head_on w b _ _ _ _ v some marked (⊎_elim (λ z t. rw z.1 tt) (λ z t. rw z.1 t) c.if-marks_of_shape.branch)
-      (λ N o. ⊎_elim (λ z. rw z.1 tt) (λ z. absurd (rw z.0.left at (told N o))) c.if-marks_of_shape.branch) _ c.wide-link-in-loop-link.ensures.0,
+      head_on w b _ _ _ _ v some marked ((elim c.if-marks_of_shape.branch [ then-marks_of_shape z ↦ λ t. rw z.any-is tt | else-marks_of_shape z ↦ λ t. rw z.any-is t ]))
+      (λ N o. (elim c.if-marks_of_shape.branch [ then-marks_of_shape z ↦ rw z.any-is tt | else-marks_of_shape z ↦ absurd (rw z.if-marks_of_shape.false at (told N o)) ])) _ c.wide-link-in-loop-link.ensures.0,
   c.marks_of_shape.auto.unifiers ∙ c.loop-link.invariant.2,
   c.marks_of_shape.ensures.1,
-)
-
-pub returns : goal.returns
-returns c = (
-  λ w. let b = asked_clause c.requires.0 w in head_ends w b _ _ _ _ (c.loop-link.invariant.1 w b) c.loop-link-test.false,
-  rw (c.wide-start.ensures.0, c.wide-cells.ensures.0) at c.loop-link.invariant.3,
 )
