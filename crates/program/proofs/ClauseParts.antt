@@ -1,6 +1,6 @@
 -- How the code's answers for a clause and for the goal go together.
 use Prim.Native.Nat.{ℕ}
-use mathlib.Core.Path.{◌≡◌, refl}
+use mathlib.Core.Path.{refl}
 use mathlib.Core.List.{List}
 use lib.ListN.{drop}
 use Rattle.terms.specs.Term.{Term}

@@ -1,5 +1,5 @@
 -- The clauses and the goal that are read from words are those whose encoding the words are, both ways.
-use Prim.Native.Nat.{ℕ, zero, suc, ◌^◌, ◌≤◌, ◌<◌}
+use Prim.Native.Nat.{ℕ, zero, suc, ◌^◌, ◌<◌}
 use native.Mathlib.Omega.{arith}
 use mathlib.Core.Path.{◌≡◌, refl, sym, ap, ap₂, ◌∙◌}
 use mathlib.Core.List.{List, [], ◌∷◌, ◌++◌, append_assoc}
@@ -8,13 +8,13 @@ use Rattle.terms.specs.Term.{Term}
 use Rattle.terms.specs.Cells.{enc, Atom}
 use Rattle.program.specs.Limits.{max_body, any_mode, ground_mode}
 use Rattle.program.specs.Reply.{out_of_range, bad_goal}
-use Rattle.program.specs.Reading.{Decoded, wrong, right, next, bounded, several}
+use Rattle.program.specs.Reading.{Decoded, right, next, bounded, several}
 use Rattle.program.specs.Atoms.{atom, atoms}
 use Rattle.program.specs.Program.{Clause}
 use Rattle.program.specs.Faults.{clause, goal, mask_of}
 use Rattle.program.specs.Within.{Each, none, more, after, Numbered, modes_of, encode_atoms, encode_clauses, WithinClause}
 use Rattle.program.proofs.Words.{Bounded, ReadWords, next_right, bounded_read, read_bounded, several_read, read_several}
-use Rattle.program.proofs.AtomWords.{AtomRead, AtomsRead, atom_read, atoms_read, read_atom, read_atoms, after_all}
+use Rattle.program.proofs.AtomWords.{AtomRead, AtomsRead, atom_read, atoms_read, read_atom, read_atoms}
 use Rattle.program.proofs.Modes.{modes_of_mask, mask_below, mask_of_modes, modes_each, modes_length}
 
 pub record ClauseRead (predicates functions ws : List ℕ) (c : Clause) (rest : List ℕ) : Type 0 where

@@ -2,10 +2,10 @@
 use Prim.Native.Nat.{ℕ}
 use mathlib.Core.Path.{◌≡◌, refl}
 use mathlib.Core.List.{List, [], ◌∷◌}
-use Rattle.terms.specs.Term.{Terms, Term, var, app, nil, cons}
+use Rattle.terms.specs.Term.{var, app, nil, cons}
 use Rattle.program.specs.Reading.{bounded, several}
 use Rattle.program.specs.Atoms.{terms, atom, atoms}
-use Rattle.program.specs.Faults.{clause, goal, written, declared, whole, Found, fault, sound, faults}
+use Rattle.program.specs.Faults.{clause, goal, written, declared, whole, fault, sound, faults}
 
 -- "the empty slice (1, place 0)"
 pub empty_slice : faults [] ≡ fault 1 0

@@ -1,5 +1,5 @@
 -- Shapes: atoms with their variables renumbered by first appearance, and the numbers of the shapes.
-use Rattle.std.specs.Prelude.{ℕ, zero, suc, ◌≤◌, ◌<◌, ◌≡◌, ◌⊎◌, List, [], ◌∷◌, ◌++◌, map, length, take, drop}
+use Rattle.std.specs.Prelude.{ℕ, zero, suc, ◌⊎◌, List, [], ◌∷◌, map, take, drop}
 use Rattle.std.proofs.Math.Decide.{ℕ_discrete}
 use Rattle.terms.specs.Term.{Term, Terms, same_term, var, app, nil, cons, sub, Occ}
 use Rattle.program.specs.Program.{Clause, Program, bodies}

@@ -6,7 +6,7 @@ use mathlib.Core.Logic.{◌⊎◌, inl, inr}
 use mathlib.Core.List.{List, [], ◌∷◌, ◌++◌}
 use lib.ListN.{length, length-append}
 use Rattle.terms.specs.Term.{Term}
-use Rattle.program.specs.Program.{Nth, there}
+use Rattle.program.specs.Program.{Nth}
 use Rattle.program.proofs.Nths.{nth_below, nth_left, nth_last, last_nth}
 use Rattle.directory.specs.Directory.{predicate_of, Link}
 

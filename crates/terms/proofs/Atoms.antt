@@ -11,7 +11,7 @@ use lib.ListN.{length, get_or, drop, replicate, get_or-replicate, get_or-eq_defa
 use Rattle.terms.specs.Term.{Term, Terms, var, app, Subst, sub, subs, All}
 use Rattle.terms.specs.Cells.{enc, encs, Atom, atom_cells, pick, take_terms, Run}
 use Rattle.terms.specs.Unifier.{Apart}
-use Rattle.terms.specs.Store.{no_place, second, cells_at, terms_at, bound, unbound}
+use Rattle.terms.specs.Store.{no_place, cells_at, terms_at, bound, unbound}
 use Rattle.terms.specs.Unified.{Unified}
 use Rattle.terms.specs.Unifying.{most, RightStore, Solves, Comparable, Compared}
 use Rattle.terms.proofs.Substs.{sub_agree, sub_var, occs_all}

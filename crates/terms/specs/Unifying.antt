@@ -1,6 +1,6 @@
 -- What unification keeps from step to step, and what a step finds. Not for readers of unifiers: those go by `Unified`.
 use Rattle.std.specs.Prelude.{ℕ, zero, suc, ◌+◌, ◌-◌, ◌*◌, ◌≤◌, ◌<◌, ◌≡◌, ◌⊎◌, ◌↔◌, Bool, List, [], ◌∷◌, length, get_or, ltb}
-use Rattle.std.proofs.Math.Option.{Option, none, some}
+use Rattle.std.proofs.Math.Option.{Option, none}
 use Rattle.terms.specs.Term.{Term, Terms, var, app, Subst, sub, subs, Occ}
 use Rattle.terms.specs.Cells.{first_variable, variables, atom_cells, pick, take_terms, Run}
 use Rattle.terms.specs.Mask.{Has}

@@ -1,11 +1,10 @@
 -- Laws of writing into lent room: one behind another, into a lent tail, and what the room holds in the end.
-use Prim.Native.Nat.{ℕ, zero, suc, ◌+◌, ◌-◌, ◌≤◌, ◌<◌, min}
+use Prim.Native.Nat.{ℕ, zero, suc, ◌+◌, ◌≤◌, ◌<◌, min}
 use mathlib.Core.Path.{◌≡◌, refl, sym, ap, ◌∙◌}
-use mathlib.Core.List.{List, [], ◌∷◌, ◌++◌, append_assoc}
+use mathlib.Core.List.{List, [], ◌∷◌, ◌++◌}
 use native.Mathlib.Omega.{arith}
-use native.Mathlib.Numerals.{add-one}
 use native.Mathlib.Decide.{dec_le}
-use lib.ListN.{length, take, drop, set, length-set, length-append, length-take, length-drop, take-append-drop}
+use lib.ListN.{length, take, drop, set, length-set, length-take, length-drop, take-append-drop}
 use lib.Seq.{sets, length-sets, sets-eq, set_out, take_at}
 use Rattle.text.specs.Put.{placed, Put}
 use Rattle.text.specs.Room.{in_room}

@@ -1,5 +1,5 @@
 -- Bytes written into lent room, one behind another, and the place behind them.
-use Rattle.std.specs.Prelude.{ℕ, suc, ◌+◌, min, ◌≡◌, List, [], ◌∷◌, length}
+use Rattle.std.specs.Prelude.{ℕ, ◌+◌, min, ◌≡◌, List, [], ◌∷◌, length}
 use Rattle.std.proofs.lemmas.List.Edits.{sets}
 
 -- the place behind bytes that are written from a place on; one past the room stands for every place past the room

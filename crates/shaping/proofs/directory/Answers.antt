@@ -1,8 +1,6 @@
 -- `directory` meets its contract: places, lists and shapes, one after the other. Assumes nothing.
-use Rattle.std.proofs.Common.{rules}
 use Rattle.directory.proofs.PlacedLaws.{placed_kept}
 use Rattle.shaping.proofs.Made.{directory_made}
-use borrow.Author.Rules.{rules}
 use Rattle.shaping.proofs.directory.Goals as goal
 
 pub shapes-requires : goal.shapes-requires

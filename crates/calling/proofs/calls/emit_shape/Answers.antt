@@ -1,12 +1,8 @@
 -- `emit_shape` meets its contract. The invariant: what the call rows from the link on give is there. The measure is the link. Assumes nothing.
-use Rattle.std.proofs.Common.{rules}
 use native.Mathlib.Omega.{arith}
-use borrow.Author.Rules.{rules}
 use Prim.Native.Nat.{◌-◌}
-use mathlib.Core.Path.{◌≡◌, refl, ◌∙◌}
-use lib.ListN.{length}
-use Rattle.calling.specs.Calls.{EmitAsked}
-use Rattle.calling.proofs.CallWalks.{Walking, walking_begins, walking_there, walking_nearer, walking_reached, walking_full, walking_on, walking_ends}
+use mathlib.Core.Path.{refl, ◌∙◌}
+use Rattle.calling.proofs.CallWalks.{walking_begins, walking_there, walking_nearer, walking_reached, walking_full, walking_on, walking_ends}
 use Rattle.calling.proofs.calls.emit_shape.Goals as goal
 
 pub loop-link-init : goal.loop-link-init

@@ -1,11 +1,8 @@
 -- `emit_shape` meets its contract. The invariant: what the call rows from the link on give is there. The measure is the link. Assumes nothing.
-use native.Mathlib.Omega.{arith}
-use borrow.Author.Rules.{rules}
-use Prim.Native.Nat.{◌-◌}
-use mathlib.Core.Path.{◌≡◌, refl, ◌∙◌}
+use mathlib.Core.Path.{◌≡◌}
 use lib.ListN.{length}
 use Rattle.calling.specs.Calls.{EmitAsked}
-use Rattle.calling.proofs.CallWalks.{Walking, walking_begins, walking_there, walking_nearer, walking_reached, walking_full, walking_on, walking_ends}
+use Rattle.calling.proofs.CallWalks.{Walking}
 use Rattle.calling.proofs.calls.emit_shape.Given as goal
 
 abbrev pub invariant-loop-link : goal.invariant-loop-link

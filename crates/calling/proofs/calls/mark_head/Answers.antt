@@ -1,16 +1,9 @@
 -- `mark_head` meets its contract. The invariant: the marks of the shapes below the link are in the set, and the notes are of the head. The measure
 -- is how many links may follow. Assumes nothing.
-use Rattle.std.proofs.Common.{rules}
 use native.Mathlib.Omega.{arith}
-use borrow.Author.Rules.{rules}
-use mathlib.Core.Path.{◌≡◌, refl, ◌∙◌}
-use mathlib.Core.Logic.{⊎_elim}
-use lib.ListN.{length}
-use Rattle.steps.specs.Situation.{Situation, ClauseOf}
-use Rattle.steps.specs.Unifiers.{Notes}
-use Rattle.steps.proofs.ShapeLinks.{shapes_left}
-use Rattle.calling.proofs.ShapeVisits.{clause_entry, head_in_words}
-use Rattle.calling.proofs.HeadVisits.{asked_clause, asked_head_in_dir, HeadVisiting, head_begins, head_shape, head_few, head_nearer, head_on, head_ends}
+use mathlib.Core.Path.{refl, ◌∙◌}
+use Rattle.calling.proofs.ShapeVisits.{head_in_words}
+use Rattle.calling.proofs.HeadVisits.{asked_clause, asked_head_in_dir, head_begins, head_shape, head_few, head_nearer, head_on, head_ends}
 use Rattle.calling.proofs.calls.mark_head.Goals as goal
 use Rattle.calling.proofs.calls.mark_head.Goals.{else-marks_of_shape, then-marks_of_shape}
 

@@ -1,15 +1,11 @@
 -- `mark_head` meets its contract. The invariant: the marks of the shapes below the link are in the set, and the notes are of the head. The measure
 -- is how many links may follow. Assumes nothing.
-use native.Mathlib.Omega.{arith}
-use borrow.Author.Rules.{rules}
-use mathlib.Core.Path.{◌≡◌, refl, ◌∙◌}
-use mathlib.Core.Logic.{⊎_elim}
+use mathlib.Core.Path.{◌≡◌}
 use lib.ListN.{length}
 use Rattle.steps.specs.Situation.{Situation, ClauseOf}
 use Rattle.steps.specs.Unifiers.{Notes}
 use Rattle.steps.proofs.ShapeLinks.{shapes_left}
-use Rattle.calling.proofs.ShapeVisits.{clause_entry, head_in_words}
-use Rattle.calling.proofs.HeadVisits.{asked_clause, asked_head_in_dir, HeadVisiting, head_begins, head_shape, head_few, head_nearer, head_on, head_ends}
+use Rattle.calling.proofs.HeadVisits.{HeadVisiting}
 use Rattle.calling.proofs.calls.mark_head.Given as goal
 
 abbrev pub invariant-loop-link : goal.invariant-loop-link

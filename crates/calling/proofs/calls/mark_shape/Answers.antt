@@ -1,12 +1,8 @@
 -- `mark_shape` meets its contract. The invariant: the marks of the call rows from the link on are in the set. The measure is the link. Assumes nothing.
-use Rattle.std.proofs.Common.{rules}
 use Prim.Native.Nat.{◌-◌}
 use native.Mathlib.Omega.{arith}
-use borrow.Author.Rules.{rules}
-use mathlib.Core.Path.{◌≡◌, refl, ◌∙◌}
-use lib.ListN.{length}
-use Rattle.calling.specs.Calls.{MarkAsked}
-use Rattle.calling.proofs.MarkWalks.{Marking, marking_begins, marking_there, marking_nearer, marking_on, marking_ends}
+use mathlib.Core.Path.{refl, ◌∙◌}
+use Rattle.calling.proofs.MarkWalks.{marking_begins, marking_there, marking_nearer, marking_on, marking_ends}
 use Rattle.calling.proofs.calls.mark_shape.Goals as goal
 
 pub loop-link-init : goal.loop-link-init

@@ -1,11 +1,9 @@
 -- `marks_of_shape` meets its contract: a shape without a new call row, or apart from the head, gives no marks; else its call rows are walked.
 -- Assumes nothing.
-use Rattle.std.proofs.Common.{rules}
 use native.Mathlib.Omega.{arith}
 use borrow.Author.Tests.{not-true, not-false}
-use Rattle.calling.proofs.MetShapes.{shape_entry, shape_in_dir, shape_slot, shape_meeting, opened_old, opened_apart, mark_calls}
+use Rattle.calling.proofs.MetShapes.{shape_in_dir, shape_slot, shape_meeting, opened_old, opened_apart, mark_calls}
 use Rattle.steps.proofs.MarkedSets.{marked_none}
-use borrow.Author.Rules.{rules}
 use Rattle.calling.proofs.calls.marks_of_shape.Goals as goal
 
 pub offset_bounds-heads-s : goal.offset_bounds-heads-s

@@ -1,8 +1,6 @@
 -- `goal` meets its contract: behind the goal's atom stand its variable count and the modes. Assumes nothing.
-use Rattle.std.proofs.Common.{rules}
 use native.Mathlib.Omega.{arith}
 use Rattle.directory.proofs.GoalWalk.{goal_atom_from, count_within, modes_within, modes_sound, modes_length_few, goal_written}
-use borrow.Author.Rules.{rules}
 use Rattle.directory.proofs.goal.goal.Goals as goal
 
 pub overflow_add-end : goal.overflow_add-end

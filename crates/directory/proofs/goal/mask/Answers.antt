@@ -1,11 +1,6 @@
 -- `mask` meets its contract. The invariant: the mask is that of the modes from i on. The measure is i. Assumes nothing.
-use Rattle.std.proofs.Common.{rules}
-use Prim.Native.Nat.{ℕ, ◌+◌, ◌-◌, ◌*◌, ◌≤◌}
+use Prim.Native.Nat.{◌-◌}
 use native.Mathlib.Omega.{arith}
-use mathlib.Core.Path.{◌≡◌, sym, ap, ◌∙◌}
-use lib.ListN.{length, get_or, drop}
-use lib.Seq.{drop-length}
-use Rattle.program.specs.Faults.{mask_of}
 use Rattle.directory.proofs.GoalWalk.{mask_next, mask_fits}
 use Rattle.directory.proofs.goal.mask.Goals as goal
 

@@ -1,11 +1,8 @@
 -- `mask` meets its contract. The invariant: the mask is that of the modes from i on. The measure is i. Assumes nothing.
-use Prim.Native.Nat.{ℕ, ◌+◌, ◌-◌, ◌*◌, ◌≤◌}
-use native.Mathlib.Omega.{arith}
-use mathlib.Core.Path.{◌≡◌, sym, ap, ◌∙◌}
-use lib.ListN.{length, get_or, drop}
-use lib.Seq.{drop-length}
+use Prim.Native.Nat.{◌≤◌}
+use mathlib.Core.Path.{◌≡◌}
+use lib.ListN.{length, drop}
 use Rattle.program.specs.Faults.{mask_of}
-use Rattle.directory.proofs.GoalWalk.{mask_next, mask_fits}
 use Rattle.directory.proofs.goal.mask.Given as goal
 
 abbrev pub invariant-loop-i : goal.invariant-loop-i

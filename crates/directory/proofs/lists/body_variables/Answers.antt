@@ -1,10 +1,8 @@
 -- `body_variables` meets its contract: a body atom stands where the directory says. Assumes nothing.
-use Rattle.std.proofs.Common.{rules}
 use native.Mathlib.Omega.{arith}
 use Rattle.program.specs.Program.{bodies}
 use Rattle.directory.specs.Said.{said}
 use Rattle.directory.proofs.PlacedLaws.{bodies_at_most, body_at}
-use borrow.Author.Rules.{rules}
 use Rattle.program.proofs.Nths.{below_nth}
 use Rattle.directory.proofs.lists.body_variables.Goals as goal
 

@@ -1,23 +1,15 @@
 -- `earlier` meets its contract. The invariant: the places before i have their lists, and the mask the variables before i. The measure is what is left of them.
 -- Assumes nothing.
-use Prim.Native.Nat.{◌+◌, ◌-◌, ◌≤◌, ◌<◌}
-use native.Mathlib.Omega.{arith}
-use borrow.Author.Rules.{rules}
-use mathlib.Core.Path.{◌≡◌, refl, sym, ◌∙◌}
+use Prim.Native.Nat.{◌+◌, ◌-◌, ◌≤◌}
+use mathlib.Core.Path.{◌≡◌}
 use mathlib.Core.List.{◌∷◌}
 use lib.ListN.{length, take}
 use Rattle.terms.specs.Mask.{Marks}
 use Rattle.program.specs.Program.{Nth, Clause, bodies}
 use Rattle.program.specs.Shapes.{In}
-use Rattle.program.proofs.Nths.{below_nth}
-use Rattle.directory.specs.Layout.{body_list}
 use Rattle.directory.specs.Said.{said}
 use Rattle.directory.specs.Walked.{Placed}
 use Rattle.directory.specs.Lists.{first_of, ListedFrom}
-use Rattle.directory.proofs.AcceptedWords.{said_within}
-use Rattle.directory.proofs.BodyNumbers.{first_next, first_within}
-use Rattle.directory.proofs.PlacedLaws.{bodies_at_most, placed_set, first_is, first_next_is}
-use Rattle.directory.proofs.ListWalk.{head_alone, listed_step, before_step}
 use Rattle.directory.proofs.lists.earlier.Given as goal
 
 abbrev pub invariant-loop-i : goal.invariant-loop-i

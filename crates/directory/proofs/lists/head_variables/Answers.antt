@@ -1,10 +1,8 @@
 -- `head_variables` meets its contract: a clause's head stands where the directory says. Assumes nothing.
-use Rattle.std.proofs.Common.{rules}
 use native.Mathlib.Omega.{arith}
 use Rattle.directory.specs.Said.{said}
 use Rattle.directory.proofs.AcceptedWords.{said_within}
 use Rattle.directory.proofs.PlacedLaws.{head_at}
-use borrow.Author.Rules.{rules}
 use Rattle.program.proofs.Nths.{below_nth}
 use Rattle.directory.proofs.lists.head_variables.Goals as goal
 

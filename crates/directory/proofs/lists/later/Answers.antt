@@ -1,21 +1,14 @@
 -- `later` meets its contract. The invariant: the places from i on have their variables, and the mask those from i on. The measure is i.
 -- Assumes nothing.
-use Rattle.std.proofs.Common.{rules}
-use Prim.Native.Nat.{suc, ◌+◌, ◌-◌, ◌≤◌, ◌<◌}
+use Prim.Native.Nat.{suc, ◌+◌, ◌-◌, ◌<◌}
 use native.Mathlib.Omega.{arith}
-use borrow.Author.Rules.{rules}
-use mathlib.Core.Path.{◌≡◌, sym, ◌∙◌}
-use mathlib.Core.List.{◌∷◌}
+use mathlib.Core.Path.{◌≡◌, ◌∙◌}
 use lib.ListN.{length, drop}
 use lib.Seq.{drop-length}
-use Rattle.terms.specs.Mask.{Marks}
-use Rattle.program.specs.Program.{Nth, Clause, bodies}
-use Rattle.program.specs.Shapes.{In}
 use Rattle.program.proofs.Nths.{below_nth}
 use Rattle.directory.specs.Layout.{body_list}
 use Rattle.directory.specs.Said.{said}
-use Rattle.directory.specs.Walked.{Placed}
-use Rattle.directory.specs.Lists.{first_of, Later}
+use Rattle.directory.specs.Lists.{first_of}
 use Rattle.directory.proofs.AcceptedWords.{said_within}
 use Rattle.directory.proofs.BodyNumbers.{first_next, body_number, first_within}
 use Rattle.directory.proofs.PlacedLaws.{bodies_at_most, placed_set, first_is, first_next_is}

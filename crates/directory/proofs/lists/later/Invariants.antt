@@ -1,24 +1,15 @@
 -- `later` meets its contract. The invariant: the places from i on have their variables, and the mask those from i on. The measure is i.
 -- Assumes nothing.
-use Prim.Native.Nat.{suc, ◌+◌, ◌-◌, ◌≤◌, ◌<◌}
-use native.Mathlib.Omega.{arith}
-use borrow.Author.Rules.{rules}
-use mathlib.Core.Path.{◌≡◌, sym, ◌∙◌}
+use Prim.Native.Nat.{◌+◌, ◌≤◌}
+use mathlib.Core.Path.{◌≡◌}
 use mathlib.Core.List.{◌∷◌}
 use lib.ListN.{length, drop}
-use lib.Seq.{drop-length}
 use Rattle.terms.specs.Mask.{Marks}
 use Rattle.program.specs.Program.{Nth, Clause, bodies}
 use Rattle.program.specs.Shapes.{In}
-use Rattle.program.proofs.Nths.{below_nth}
-use Rattle.directory.specs.Layout.{body_list}
 use Rattle.directory.specs.Said.{said}
 use Rattle.directory.specs.Walked.{Placed}
 use Rattle.directory.specs.Lists.{first_of, Later}
-use Rattle.directory.proofs.AcceptedWords.{said_within}
-use Rattle.directory.proofs.BodyNumbers.{first_next, body_number, first_within}
-use Rattle.directory.proofs.PlacedLaws.{bodies_at_most, placed_set, first_is, first_next_is}
-use Rattle.directory.proofs.ListWalk.{head_alone, later_none, later_mask, later_more}
 use Rattle.directory.proofs.lists.later.Given as goal
 
 abbrev pub invariant-loop-i : goal.invariant-loop-i

@@ -1,17 +1,12 @@
 -- `lists` meets its contract. The invariant: the lists of the clauses passed are made. The measure is what is left of the clauses.
 -- Assumes nothing.
-use Rattle.std.proofs.Common.{rules}
-use Prim.Native.Nat.{◌-◌, ◌≤◌, ◌<◌}
+use Prim.Native.Nat.{◌<◌}
 use native.Mathlib.Omega.{arith}
-use borrow.Author.Rules.{rules}
-use mathlib.Core.Path.{◌≡◌, sym, ◌∙◌}
+use mathlib.Core.Path.{◌≡◌}
 use lib.ListN.{length}
 use Rattle.program.proofs.Nths.{below_nth}
 use Rattle.directory.specs.Said.{said}
-use Rattle.directory.specs.Walked.{Placed}
-use Rattle.directory.specs.Lists.{Lists}
-use Rattle.directory.proofs.AcceptedWords.{said_within}
-use Rattle.directory.proofs.ListWalk.{no_lists, later_own, later_placed, lists_more}
+use Rattle.directory.proofs.ListWalk.{later_own, later_placed, lists_more}
 use Rattle.directory.proofs.lists.lists.Goals as goal
 
 pub earlier-requires : goal.earlier-requires

@@ -1,7 +1,5 @@
 -- `variables` meets its contract: the cells of an atom have its variables. Assumes nothing.
-use Rattle.std.proofs.Common.{rules}
 use Rattle.directory.proofs.MaskLaws.{run_cells, present_fits, present_marks}
-use borrow.Author.Rules.{rules}
 use Rattle.directory.proofs.lists.variables.Goals as goal
 
 pub present-requires : goal.present-requires

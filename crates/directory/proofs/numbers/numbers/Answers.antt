@@ -1,16 +1,10 @@
 -- `numbers` meets its contract. The invariant: the variables of the cells passed are numbered. The measure is what is left of the run.
 -- Assumes nothing.
-use Rattle.std.proofs.Common.{rules}
-use Prim.Native.Nat.{◌-◌, ◌≤◌}
 use native.Mathlib.Omega.{arith}
-use borrow.Author.Rules.{rules}
-use mathlib.Core.Path.{◌≡◌}
-use mathlib.Core.Logic.{⊎_elim}
 use mathlib.Core.List.{[]}
-use lib.ListN.{length, get_or, take}
-use lib.Seq.{take_all}
-use Rattle.directory.specs.Numbers.{met_cells, Numbered}
-use Rattle.directory.proofs.Numbering.{met_cells_next, none_numbered, function_numbered, old_numbered, new_numbered}
+use lib.ListN.{get_or, take}
+use Rattle.directory.specs.Numbers.{met_cells}
+use Rattle.directory.proofs.Numbering.{met_cells_next, function_numbered, old_numbered, new_numbered}
 use Rattle.directory.proofs.numbers.numbers.Goals as goal
 use Rattle.directory.proofs.numbers.numbers.Goals.{then-cell-ge-FIRST_VARIABLE+then-table-v-eq0, then-cell-ge-FIRST_VARIABLE+else-table-v-eq0, else-cell-ge-FIRST_VARIABLE}
 

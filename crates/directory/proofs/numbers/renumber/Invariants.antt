@@ -1,10 +1,7 @@
 -- `renumber` meets its contract. The invariant: the cells passed stand renumbered. The measure is what is left of the run. Assumes nothing.
 use Prim.Native.Nat.{◌-◌, ◌≤◌}
-use native.Mathlib.Omega.{arith}
-use mathlib.Core.Path.{◌≡◌}
 use lib.ListN.{length}
 use Rattle.directory.specs.Numbers.{Renumbered}
-use Rattle.directory.proofs.Numbering.{none_renumbered, one_renumbered}
 use Rattle.directory.proofs.numbers.renumber.Given as goal
 
 abbrev pub invariant-loop-i : goal.invariant-loop-i

@@ -1,12 +1,10 @@
 -- `atom_cells` meets its contract: behind the predicate's word stand as many terms as its arity says. Assumes nothing.
-use Rattle.std.proofs.Common.{rules}
 use native.Mathlib.Omega.{arith}
 use mathlib.Core.Path.{◌≡◌, ap, ◌∙◌}
 use Prim.Native.Nat.{ℕ, ◌+◌}
 use lib.ListN.{length}
 use Rattle.terms.specs.Cells.{enc}
-use Rattle.directory.proofs.AtomsFrom.{atom_within, atom_declared, atom_run, atom_length, atom_short}
-use borrow.Author.Rules.{rules}
+use Rattle.directory.proofs.AtomsFrom.{atom_length, atom_short}
 use Rattle.directory.proofs.places.atom_cells.Goals as goal
 
 pub overflow_add-result : goal.overflow_add-result

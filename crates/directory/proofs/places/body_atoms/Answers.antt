@@ -1,14 +1,9 @@
 -- `body_atoms` meets its contract. The invariant: the atoms passed are written. The measure is what is left of them. Assumes nothing.
-use Rattle.std.proofs.Common.{rules}
-use Prim.Native.Nat.{◌-◌, ◌≤◌}
 use native.Mathlib.Omega.{arith}
 use mathlib.Core.Path.{◌≡◌}
-use lib.ListN.{length, length-set}
-use Rattle.directory.specs.Layout.{dir_words}
-use Rattle.directory.specs.Walked.{AtomsWritten}
-use Rattle.directory.specs.From.{AtomsFrom}
+use lib.ListN.{length-set}
 use Rattle.directory.proofs.AtomsFrom.{atom_ends, atom_short}
-use Rattle.directory.proofs.BodyWalk.{none_written, next_atom, one_written}
+use Rattle.directory.proofs.BodyWalk.{next_atom, one_written}
 use Rattle.directory.proofs.places.body_atoms.Goals as goal
 
 pub atom_cells-cells-requires : goal.atom_cells-cells-requires

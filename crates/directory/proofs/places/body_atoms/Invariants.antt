@@ -1,13 +1,10 @@
 -- `body_atoms` meets its contract. The invariant: the atoms passed are written. The measure is what is left of them. Assumes nothing.
 use Prim.Native.Nat.{◌-◌, ◌≤◌}
-use native.Mathlib.Omega.{arith}
 use mathlib.Core.Path.{◌≡◌}
-use lib.ListN.{length, length-set}
+use lib.ListN.{length}
 use Rattle.directory.specs.Layout.{dir_words}
 use Rattle.directory.specs.Walked.{AtomsWritten}
 use Rattle.directory.specs.From.{AtomsFrom}
-use Rattle.directory.proofs.AtomsFrom.{atom_ends, atom_short}
-use Rattle.directory.proofs.BodyWalk.{none_written, next_atom, one_written}
 use Rattle.directory.proofs.places.body_atoms.Given as goal
 
 abbrev pub invariant-loop-i : goal.invariant-loop-i

@@ -1,11 +1,9 @@
 -- `clause` meets its contract: behind the body's length stand the head and then the body's atoms. Assumes nothing.
-use Rattle.std.proofs.Common.{rules}
 use native.Mathlib.Omega.{arith}
 use mathlib.Core.Path.{refl, ap, ◌∙◌}
 use lib.ListN.{length, length-set, length-take}
-use Rattle.directory.proofs.ClauseWalk.{clause_within, body_length, head_from, head_ends, body_from, head_cells, head_met, clause_written}
+use Rattle.directory.proofs.ClauseWalk.{body_length, head_from, head_ends, body_from, head_cells, head_met, clause_written}
 use Rattle.directory.proofs.ShapeVariables.{met_few}
-use borrow.Author.Rules.{rules}
 use Rattle.directory.proofs.places.clause.Goals as goal
 
 pub overflow_add-body : goal.overflow_add-body

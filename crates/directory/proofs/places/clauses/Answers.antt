@@ -1,13 +1,9 @@
 -- `clauses` meets its contract. The invariant: the clauses passed are written. The measure is what is left of them. Assumes nothing.
-use Rattle.std.proofs.Common.{rules}
-use Prim.Native.Nat.{◌-◌, ◌≤◌}
 use native.Mathlib.Omega.{arith}
 use mathlib.Core.Path.{◌≡◌, ◌∙◌}
 use lib.ListN.{length, length-set}
 use lib.Seq.{get_or-set_same}
 use Rattle.directory.specs.Layout.{clause_first, dir_words}
-use Rattle.directory.specs.Walked.{ClausesWritten}
-use Rattle.directory.specs.From.{ClausesFrom}
 use Rattle.directory.proofs.ClausesWalk.{no_clauses, next_clause, first_room, one_clause, first_set}
 use Rattle.directory.proofs.places.clauses.Goals as goal
 

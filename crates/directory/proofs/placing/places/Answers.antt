@@ -1,14 +1,12 @@
 -- `places` meets its contract: the arities, the clauses and the goal stand one after another. Assumes nothing.
-use Rattle.std.proofs.Common.{rules}
 use Prim.Native.Nat.{ℕ, ◌+◌}
 use native.Mathlib.Omega.{arith}
 use mathlib.Core.Path.{◌≡◌, ap, ◌∙◌}
-use lib.ListN.{length, length-set}
+use lib.ListN.{length}
 use Rattle.directory.specs.Said.{said}
 use Rattle.directory.specs.Layout.{dir_words, predicates_start}
 use Rattle.directory.proofs.AcceptedWords.{said_within, words_short, first_three, predicate_count, function_count, clause_count_law, predicates_are, functions_within, functions_are, clauses_within, clauses_from, goal_from}
 use Rattle.directory.proofs.PlacedLaws.{goal_comes, placed}
-use borrow.Author.Rules.{rules}
 use Rattle.directory.proofs.placing.places.Goals as goal
 
 pub bounds-words-0 : goal.bounds-words-0

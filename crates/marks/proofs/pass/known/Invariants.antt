@@ -1,15 +1,7 @@
 -- `known` meets its contract: the loop gathers the sets of the variables that are done, lowest first. Assumes nothing.
-use Prim.Native.Nat.{◌^◌, ◌≤◌, ◌<◌}
-use native.Mathlib.Omega.{arith}
-use mathlib.Core.Path.{◌≡◌}
-use borrow.Author.Rules.{rules}
-use lib.Bits.{bit_and, and_le_l}
-use lib.Pow.{pow_pos}
+use Prim.Native.Nat.{◌^◌, ◌<◌}
 use Rattle.terms.specs.Cells.{variables}
-use Rattle.terms.specs.Mask.{Has}
-use Rattle.marks.proofs.SingleBits.{lowest_turn}
-use Rattle.marks.proofs.MaskLoops.{Within, Gathered, within_without, gathered_none, gathered_more}
-use Rattle.marks.proofs.SetsPassed.{known_of_gathered}
+use Rattle.marks.proofs.MaskLoops.{Within, Gathered}
 use Rattle.marks.proofs.pass.known.Given as goal
 
 abbrev pub invariant-loop-left : goal.invariant-loop-left

@@ -1,16 +1,11 @@
 -- `pass_on` meets its contract: of the variables that N does not mark, the loop finds those whose sets are inside the known ones. Assumes nothing.
-use Rattle.std.proofs.Common.{rules}
 use Prim.Native.Nat.{◌^◌, ◌≤◌, ◌<◌}
 use native.Mathlib.Omega.{arith}
-use borrow.Author.Rules.{rules}
 use mathlib.Core.Path.{◌≡◌}
-use mathlib.Core.Logic.{⊎_elim}
-use lib.Bits.{bit_and, and_lt, xor_lt}
-use lib.Pow.{pow_pos}
 use Rattle.terms.specs.Cells.{variables}
 use Rattle.terms.specs.Mask.{Has}
 use Rattle.marks.proofs.SingleBits.{lowest_turn}
-use Rattle.marks.proofs.MaskLoops.{Sorting, sorting_none, sorting_in, sorting_out}
+use Rattle.marks.proofs.MaskLoops.{sorting_in, sorting_out}
 use Rattle.marks.proofs.SetsPassed.{Inside, marked_of_ground}
 use Rattle.marks.proofs.pass.pass_on.Goals as goal
 use Rattle.marks.proofs.pass.pass_on.Goals.{else-set-ground_by, then-set-ground_by}

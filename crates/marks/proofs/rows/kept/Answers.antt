@@ -1,5 +1,4 @@
 -- `kept` meets its contract: `&` marks what both masks mark. Assumes nothing.
-use Rattle.std.proofs.Common.{rules}
 use Rattle.terms.proofs.Masks.{has_and}
 use Rattle.marks.proofs.rows.kept.Goals as goal
 

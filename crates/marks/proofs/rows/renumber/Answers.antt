@@ -1,12 +1,6 @@
 -- `renumber` meets its contract: the result is right for the shape's first k variables. Assumes nothing.
-use Rattle.std.proofs.Common.{rules}
-use Prim.Native.Nat.{◌≤◌, ◌-◌}
 use native.Mathlib.Omega.{arith}
-use borrow.Author.Rules.{rules}
-use mathlib.Core.Path.{◌≡◌}
-use mathlib.Core.Logic.{⊎_elim}
-use Rattle.marks.specs.Modes.{Reordered}
-use Rattle.marks.proofs.RowMasks.{reordered_none, reordered_marked, reordered_unmarked}
+use Rattle.marks.proofs.RowMasks.{reordered_marked, reordered_unmarked}
 use Rattle.marks.proofs.rows.renumber.Goals as goal
 use Rattle.marks.proofs.rows.renumber.Goals.{else-marks, then-marks}
 

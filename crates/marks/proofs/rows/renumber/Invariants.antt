@@ -1,11 +1,6 @@
 -- `renumber` meets its contract: the result is right for the shape's first k variables. Assumes nothing.
 use Prim.Native.Nat.{◌≤◌, ◌-◌}
-use native.Mathlib.Omega.{arith}
-use borrow.Author.Rules.{rules}
-use mathlib.Core.Path.{◌≡◌}
-use mathlib.Core.Logic.{⊎_elim}
 use Rattle.marks.specs.Modes.{Reordered}
-use Rattle.marks.proofs.RowMasks.{reordered_none, reordered_marked, reordered_unmarked}
 use Rattle.marks.proofs.rows.renumber.Given as goal
 
 abbrev pub invariant-loop-k : goal.invariant-loop-k

@@ -1,11 +1,6 @@
 -- `restore` meets its contract: the result is right for the shape's first k variables. Assumes nothing.
 use Prim.Native.Nat.{◌≤◌, ◌-◌}
-use native.Mathlib.Omega.{arith}
-use borrow.Author.Rules.{rules}
-use mathlib.Core.Path.{◌≡◌}
-use mathlib.Core.Logic.{⊎_elim}
 use Rattle.marks.specs.Modes.{Restored}
-use Rattle.marks.proofs.RowMasks.{restored_none, restored_marked, restored_unmarked}
 use Rattle.marks.proofs.rows.restore.Given as goal
 
 abbrev pub invariant-loop-k : goal.invariant-loop-k

@@ -1,5 +1,4 @@
 -- `together` meets its contract: `|` marks what either mask marks. Assumes nothing.
-use Rattle.std.proofs.Common.{rules}
 use Rattle.terms.proofs.Masks.{has_or}
 use Rattle.marks.proofs.rows.together.Goals as goal
 

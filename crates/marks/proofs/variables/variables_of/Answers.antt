@@ -1,6 +1,4 @@
 -- `variables_of` meets its contract: variables are below 16, so that the walk's set fits a mask. Assumes nothing.
-use Rattle.std.proofs.Common.{rules}
-use borrow.Author.Rules.{rules}
 use Rattle.marks.proofs.AtomVariables.{present_small}
 use Rattle.marks.proofs.variables.variables_of.Goals as goal
 

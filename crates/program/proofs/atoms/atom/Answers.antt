@@ -1,11 +1,8 @@
 -- `atom` meets its contract: the cursor's answer says where it stands; behind the predicate's number the arguments are read by `terms`.
 -- Assumes nothing.
-use Rattle.std.proofs.Common.{rules}
 use mathlib.Core.Path.{sym, ◌∙◌}
-use native.Mathlib.Omega.{arith}
 use Rattle.program.proofs.Parts.{step_cell, step_end}
 use Rattle.program.proofs.AtomParts.{atom_end, atom_undeclared, atom_terms}
-use borrow.Author.Rules.{rules}
 use Rattle.program.proofs.atoms.atom.Goals as goal
 
 pub returns-then-predicates-p : goal.returns-then-predicates-p

@@ -1,15 +1,10 @@
 -- `atoms` meets its contract. The loop's invariant: an answer for what is left is the answer for the whole. The measure is how many atoms are left.
 -- Assumes nothing.
 use Prim.Native.Nat.{◌≤◌}
-use native.Mathlib.Omega.{arith}
-use borrow.Author.Rules.{rules}
 use lib.ListN.{length, drop}
 use Rattle.program.specs.declared.part.Part.{Part}
-use Rattle.program.specs.declared.part.Part.TheVariants.{Fault, Next}
-use Rattle.program.specs.Atoms.{atom, atoms}
+use Rattle.program.specs.Atoms.{atoms}
 use Rattle.program.specs.Part.{Meets, met}
-use Rattle.program.proofs.Parts.{meets_inside}
-use Rattle.program.proofs.AtomParts.{atoms_none, atoms_fault, atoms_next}
 use Rattle.program.proofs.atoms.atoms.Given as goal
 
 abbrev pub invariant-loop-left : goal.invariant-loop-left

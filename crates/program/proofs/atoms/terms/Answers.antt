@@ -1,14 +1,7 @@
 -- `terms` meets its contract. The loop's invariant: an answer for what is left is the answer for the whole, and few enough terms are asked for. The measure is the words left.
 -- Assumes nothing.
-use Rattle.std.proofs.Common.{rules}
-use Prim.Native.Nat.{◌≤◌, ◌<◌, ◌*◌, ◌-◌}
 use native.Mathlib.Omega.{arith}
-use borrow.Author.Rules.{rules}
-use lib.ListN.{length, drop}
-use Rattle.program.specs.declared.part.Part.{Part}
 use Rattle.program.specs.declared.part.Part.TheVariants.{Fault, Next}
-use Rattle.program.specs.Atoms.{terms}
-use Rattle.program.specs.Part.{Meets, met}
 use Rattle.program.proofs.Taking.{terms_none, terms_fault, terms_opens, Took, taken_took}
 use Rattle.program.proofs.atoms.terms.Goals as goal
 

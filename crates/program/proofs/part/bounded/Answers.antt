@@ -1,9 +1,7 @@
 -- `bounded` meets its contract: the cursor's answer says where it stands, and the tests that led to each `return` say which case of the definition holds.
 -- Assumes nothing.
-use Rattle.std.proofs.Common.{rules}
 use mathlib.Core.Path.{sym, ◌∙◌}
 use Rattle.program.proofs.Parts.{step_cell, step_end, bounded_end, bounded_below, bounded_above, bounded_within}
-use borrow.Author.Rules.{rules}
 use Rattle.program.proofs.part.bounded.Goals as goal
 
 pub returns-then-word-low : goal.returns-then-word-low

@@ -1,14 +1,9 @@
 -- `several` meets its contract. The loop's invariant: an answer for what is left is the answer for the whole. The measure is how many words are left.
 -- Assumes nothing.
-use Rattle.std.proofs.Common.{rules}
-use Prim.Native.Nat.{◌≤◌}
-use native.Mathlib.Omega.{arith}
-use borrow.Author.Rules.{rules}
-use lib.ListN.{length, drop}
-use Rattle.program.specs.declared.part.Part.{Part}
+use lib.ListN.{drop}
 use Rattle.program.specs.declared.part.Part.TheVariants.{Fault, Next}
-use Rattle.program.specs.Reading.{bounded, several}
-use Rattle.program.specs.Part.{Meets, itself, none}
+use Rattle.program.specs.Reading.{bounded}
+use Rattle.program.specs.Part.{itself}
 use Rattle.program.proofs.Parts.{meets_inside, several_none, several_fault, several_next}
 use Rattle.program.proofs.part.several.Goals as goal
 

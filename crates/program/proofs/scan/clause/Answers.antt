@@ -1,15 +1,7 @@
 -- `clause` meets its contract: the answers for its body length, its head and its body go together as the definition's parts do.
 -- Assumes nothing.
-use Rattle.std.proofs.Common.{rules}
 use lib.ListN.{drop}
-use Rattle.program.specs.Limits.{max_body}
-use Rattle.program.specs.Reply.{out_of_range, bad_goal}
-use Rattle.program.specs.Reading.{bounded}
-use Rattle.program.specs.Atoms.{atom}
-use Rattle.program.specs.Part.{itself, met}
-use Rattle.program.proofs.Parts.{meets_inside}
 use Rattle.program.proofs.ClauseParts.{clause_length_fault, clause_head_fault, clause_body_fault, clause_body_next}
-use borrow.Author.Rules.{rules}
 use Rattle.program.proofs.scan.clause.Goals as goal
 
 pub returns-in-Fault : goal.returns-in-Fault

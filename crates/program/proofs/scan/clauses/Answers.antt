@@ -1,15 +1,9 @@
 -- `clauses` meets its contract. The loop's invariant: an answer for what is left is the answer for the whole. The measure is how many clauses are left.
 -- Assumes nothing.
-use Rattle.std.proofs.Common.{rules}
-use Prim.Native.Nat.{◌≤◌}
-use native.Mathlib.Omega.{arith}
-use borrow.Author.Rules.{rules}
-use lib.ListN.{length, drop}
-use Rattle.program.specs.declared.part.Part.{Part}
+use lib.ListN.{drop}
 use Rattle.program.specs.declared.part.Part.TheVariants.{Fault, Next}
-use Rattle.program.specs.Reading.{several}
 use Rattle.program.specs.Faults.{clause}
-use Rattle.program.specs.Part.{Meets, none}
+use Rattle.program.specs.Part.{none}
 use Rattle.program.proofs.Parts.{meets_inside, several_none, several_fault, several_next}
 use Rattle.program.proofs.scan.clauses.Goals as goal
 

@@ -1,14 +1,11 @@
 -- `declared` meets its contract: the parts of the words that are lent are the arities that the definition hands out.
 -- Assumes nothing.
-use Rattle.std.proofs.Common.{rules}
 use Prim.Native.Nat.{◌≤◌}
-use native.Mathlib.Omega.{arith}
 use lib.ListN.{length, drop}
 use Rattle.program.specs.Faults.{arities}
 use Rattle.program.specs.Part.{none}
 use Rattle.program.proofs.Parts.{meets_inside}
 use Rattle.program.proofs.WholeParts.{declared_predicates_fault, declared_functions_fault, declared_written, declared_on, declared_further}
-use borrow.Author.Rules.{rules}
 use Rattle.program.proofs.scan.declared.Goals as goal
 
 pub slice_bounds-written-count : goal.slice_bounds-written-count

@@ -1,15 +1,7 @@
 -- `goal` meets its contract: the answers for its atom, its variable count and its modes go together as the definition's parts do.
 -- Assumes nothing.
-use Rattle.std.proofs.Common.{rules}
 use lib.ListN.{drop}
-use Rattle.program.specs.Limits.{max_body}
-use Rattle.program.specs.Reply.{out_of_range, bad_goal}
-use Rattle.program.specs.Reading.{bounded}
-use Rattle.program.specs.Atoms.{atom}
-use Rattle.program.specs.Part.{itself, met}
-use Rattle.program.proofs.Parts.{meets_inside}
 use Rattle.program.proofs.ClauseParts.{goal_atom_fault, goal_count_fault, goal_modes}
-use borrow.Author.Rules.{rules}
 use Rattle.program.proofs.scan.goal.Goals as goal
 
 pub returns-in-Fault : goal.returns-in-Fault

@@ -1,8 +1,6 @@
 -- `scan` meets its contract: the answer for the whole is the reply that `faults` gives.
 -- Assumes nothing.
-use Rattle.std.proofs.Common.{rules}
 use Rattle.program.proofs.WholeParts.{scan_long, scan_fault, scan_sound}
-use borrow.Author.Rules.{rules}
 use Rattle.program.proofs.scan.scan.Goals as goal
 
 pub returns-then-words-gt-MAX_WORDS : goal.returns-then-words-gt-MAX_WORDS

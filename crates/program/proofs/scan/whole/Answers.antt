@@ -1,14 +1,6 @@
 -- `whole` meets its contract: the answers for the three counts and for what follows go together as the definition's parts do.
 -- Assumes nothing.
-use Rattle.std.proofs.Common.{rules}
-use lib.ListN.{drop}
-use Rattle.program.specs.Limits.{min_predicates, max_declared}
-use Rattle.program.specs.Reply.{out_of_range}
-use Rattle.program.specs.Reading.{bounded}
-use Rattle.program.specs.Part.{itself}
-use Rattle.program.proofs.Parts.{meets_inside}
 use Rattle.program.proofs.WholeParts.{whole_first_fault, whole_second_fault, whole_third_fault, whole_declared}
-use borrow.Author.Rules.{rules}
 use Rattle.program.proofs.scan.whole.Goals as goal
 
 pub returns-in-Fault : goal.returns-in-Fault

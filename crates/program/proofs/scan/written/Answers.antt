@@ -1,13 +1,7 @@
 -- `written` meets its contract: the answers for the clauses and for the goal go together as the definition's parts do, and nothing may follow.
 -- Assumes nothing.
-use Rattle.std.proofs.Common.{rules}
 use lib.ListN.{drop}
-use Rattle.program.specs.Reading.{several}
-use Rattle.program.specs.Faults.{clause}
-use Rattle.program.specs.Part.{none}
-use Rattle.program.proofs.Parts.{meets_inside}
 use Rattle.program.proofs.WholeParts.{written_clauses_fault, written_goal_fault, written_follows, written_end}
-use borrow.Author.Rules.{rules}
 use Rattle.program.proofs.scan.written.Goals as goal
 
 pub returns-then-at-words : goal.returns-then-at-words

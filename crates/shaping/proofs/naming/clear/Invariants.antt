@@ -1,10 +1,7 @@
 -- `clear` meets its contract. The invariant: the links of the predicates passed are 0. The measure is what is left of them. Assumes nothing.
 use Prim.Native.Nat.{◌-◌, ◌≤◌}
-use native.Mathlib.Omega.{arith}
-use mathlib.Core.Path.{◌≡◌}
 use Rattle.program.specs.Limits.{max_declared}
 use Rattle.shaping.specs.Named.{Cleared}
-use Rattle.shaping.proofs.ShapeNames.{none_cleared, one_cleared}
 use Rattle.shaping.proofs.naming.clear.Given as goal
 
 abbrev pub invariant-loop-q : goal.invariant-loop-q

@@ -1,10 +1,5 @@
 -- `goal_shape` meets its contract: the goal's shape is the first. Assumes nothing.
-use Rattle.std.proofs.Common.{rules}
-use mathlib.Core.Path.{◌∙◌}
-use lib.ListN.{length-set}
-use Rattle.directory.specs.Layout.{shape_start}
 use Rattle.shaping.proofs.ShapesWalk.{goal_at, goal_size, goal_asked, goal_found}
-use borrow.Author.Rules.{rules}
 use Rattle.shaping.proofs.naming.goal_shape.Goals as goal
 
 pub number-requires : goal.number-requires

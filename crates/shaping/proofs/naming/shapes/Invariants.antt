@@ -1,18 +1,12 @@
 -- `shapes` meets its contract. The invariant: the atoms passed have their shapes' numbers. The measure is what is left of them.
 -- Assumes nothing.
-use Prim.Native.Nat.{◌-◌, ◌≤◌, ◌<◌}
-use native.Mathlib.Omega.{arith}
-use borrow.Author.Rules.{rules}
-use mathlib.Core.Path.{◌≡◌, sym, ◌∙◌}
-use mathlib.Core.Logic.{⊎_elim}
-use lib.ListN.{length, length-set}
+use Prim.Native.Nat.{◌-◌, ◌≤◌}
+use mathlib.Core.Path.{◌≡◌}
+use lib.ListN.{length}
 use Rattle.program.specs.Program.{bodies}
-use Rattle.directory.specs.Layout.{shape_count, body_count}
 use Rattle.directory.specs.Said.{said}
 use Rattle.directory.specs.Walked.{Placed}
 use Rattle.shaping.specs.Named.{ShapesFound}
-use Rattle.directory.proofs.PlacedLaws.{bodies_at_most}
-use Rattle.shaping.proofs.ShapesWalk.{found_placed, body_asked, answer_few, counted_new, counted_old, body_found, all_named, found_own, named_after}
 use Rattle.shaping.proofs.naming.shapes.Given as goal
 
 abbrev pub invariant-loop-j : goal.invariant-loop-j

@@ -1,15 +1,9 @@
 -- `find` meets its contract. The invariant: the search goes on with the link in the slot. The measure is what is left behind the slot.
 -- Assumes nothing.
-use Rattle.std.proofs.Common.{rules}
-use Prim.Native.Nat.{◌-◌}
 use native.Mathlib.Omega.{arith}
-use borrow.Author.Rules.{rules}
 use mathlib.Core.Path.{◌≡◌}
-use mathlib.Core.Logic.{⊎_elim}
 use lib.Dec.{T}
-use Rattle.directory.specs.Layout.{shape_cells}
-use Rattle.shaping.specs.Shaped.{Sought, Seeking}
-use Rattle.shaping.proofs.ShapeSearch.{predicate_declared, seek_first, not_found, link_most, end_most, end_ordered, found, pass, longer, unlike, slot_grows}
+use Rattle.shaping.proofs.ShapeSearch.{not_found, link_most, end_most, end_ordered, found, pass, longer, unlike, slot_grows}
 use Rattle.shaping.proofs.shapes.find.Goals as goal
 use Rattle.shaping.proofs.shapes.find.Goals.{then-end-start+else-same, else-end-start}
 

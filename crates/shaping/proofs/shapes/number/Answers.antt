@@ -1,9 +1,7 @@
 -- `number` meets its contract: the atom's cells are renumbered behind the shapes and sought there. Assumes nothing.
-use Rattle.std.proofs.Common.{rules}
 use native.Mathlib.Omega.{arith}
 use mathlib.Core.Path.{refl, ◌∙◌}
-use Rattle.shaping.proofs.ShapeNumber.{run_length, run_all_cells, start_within, variables_few, in_table, sought, old_answer, slot_in, new_answer}
-use borrow.Author.Rules.{rules}
+use Rattle.shaping.proofs.ShapeNumber.{run_length, run_all_cells, variables_few, in_table, sought, old_answer, slot_in, new_answer}
 use Rattle.shaping.proofs.shapes.number.Goals as goal
 
 pub numbers-vars-requires : goal.numbers-vars-requires

@@ -1,10 +1,7 @@
 -- `same` meets its contract. The invariant: the cells passed are the same. The measure is what is left of them. Assumes nothing.
 use Prim.Native.Nat.{ℕ, ◌+◌, ◌-◌, ◌≤◌, ◌<◌}
-use native.Mathlib.Omega.{arith}
 use mathlib.Core.Path.{◌≡◌}
-use borrow.Author.Count.{below_more}
 use lib.ListN.{get_or}
-use Rattle.directory.proofs.Parts.{parts_same, same_parts}
 use Rattle.shaping.proofs.shapes.same.Given as goal
 
 abbrev pub invariant-loop-i : goal.invariant-loop-i

@@ -1,11 +1,9 @@
 -- `first_variables` meets its contract: 2^count - 1 marks the variables below the count, and a shift by at most 16 loses nothing. Assumes nothing.
 -- nothing is lost
-use Rattle.std.proofs.Common.{rules}
 use Prim.Native.Nat.{ℕ, ◌*◌, ◌%◌, ◌^◌, ◌≤◌}
 use native.Mathlib.Omega.{arith}
 use native.Mathlib.Nat.{one-mul, mod-eq_of_lt}
 use mathlib.Core.Path.{◌≡◌}
-use borrow.Author.Rules.{rules}
 use lib.Pow.{pow-lt, pow_mono, pow_pos}
 use Rattle.steps.proofs.FirstVariables.{first_marks}
 use Rattle.steps.proofs.meet.first_variables.Goals as goal

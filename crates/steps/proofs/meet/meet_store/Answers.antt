@@ -1,7 +1,5 @@
 -- `meet_store` meets its contract: the cells of the shape and of the atom are those of atoms, and what unification says of them it says of these.
 -- Assumes nothing.
-use Rattle.std.proofs.Common.{rules}
-use borrow.Author.Rules.{rules}
 use Rattle.steps.proofs.Meetings.{shape_in, meeting_atoms, meeting_store}
 use Rattle.steps.proofs.meet.meet_store.Goals as goal
 

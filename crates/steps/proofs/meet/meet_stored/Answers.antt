@@ -1,7 +1,5 @@
 -- `meet_stored` meets its contract: the bindings are of the cells of the shape and of the atom, and so are the sets that are made of them.
 -- Assumes nothing.
-use Rattle.std.proofs.Common.{rules}
-use borrow.Author.Rules.{rules}
 use Rattle.steps.proofs.Meetings.{store_sets, shape_in, meeting_bindings, meeting_stored}
 use Rattle.steps.proofs.meet.meet_stored.Goals as goal
 

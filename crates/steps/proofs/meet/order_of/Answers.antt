@@ -1,18 +1,14 @@
 -- `order_of` meets its contract. The invariant: the variables of the cells passed are in the list by first appearance. The measure is what is
 -- left of the run. Assumes nothing.
-use Rattle.std.proofs.Common.{rules}
-use Prim.Native.Nat.{◌-◌, ◌≤◌}
 use native.Mathlib.Omega.{arith}
-use borrow.Author.Rules.{rules}
 use borrow.Author.Tests.{not-true, not-false}
 use mathlib.Core.Path.{◌≡◌}
-use mathlib.Core.Logic.{⊎_elim}
 use mathlib.Core.List.{[]}
-use lib.ListN.{length, get_or, take}
+use lib.ListN.{length, get_or}
 use lib.Seq.{take_all}
 use Rattle.directory.specs.Numbers.{met_cells}
 use Rattle.directory.proofs.Numbering.{met_cells_next}
-use Rattle.steps.proofs.Appearance.{Ordered, none_ordered, ordered_few, function_ordered, old_ordered, room_left, new_ordered, run_cells, run_in_order}
+use Rattle.steps.proofs.Appearance.{Ordered, ordered_few, function_ordered, old_ordered, room_left, new_ordered, run_cells, run_in_order}
 use Rattle.steps.proofs.meet.order_of.Goals as goal
 use Rattle.steps.proofs.meet.order_of.Goals.{then-cell-ge-FIRST_VARIABLE+then-not-has, then-cell-ge-FIRST_VARIABLE+else-not-has, else-cell-ge-FIRST_VARIABLE}
 

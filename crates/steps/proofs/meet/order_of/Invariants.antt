@@ -1,17 +1,10 @@
 -- `order_of` meets its contract. The invariant: the variables of the cells passed are in the list by first appearance. The measure is what is
 -- left of the run. Assumes nothing.
 use Prim.Native.Nat.{◌-◌, ◌≤◌}
-use native.Mathlib.Omega.{arith}
-use borrow.Author.Rules.{rules}
-use borrow.Author.Tests.{not-true, not-false}
-use mathlib.Core.Path.{◌≡◌}
-use mathlib.Core.Logic.{⊎_elim}
 use mathlib.Core.List.{[]}
-use lib.ListN.{length, get_or, take}
-use lib.Seq.{take_all}
+use lib.ListN.{length, take}
 use Rattle.directory.specs.Numbers.{met_cells}
-use Rattle.directory.proofs.Numbering.{met_cells_next}
-use Rattle.steps.proofs.Appearance.{Ordered, none_ordered, ordered_few, function_ordered, old_ordered, room_left, new_ordered, run_cells, run_in_order}
+use Rattle.steps.proofs.Appearance.{Ordered}
 use Rattle.steps.proofs.meet.order_of.Given as goal
 
 abbrev pub invariant-loop-i : goal.invariant-loop-i

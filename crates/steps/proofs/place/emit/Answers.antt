@@ -1,8 +1,6 @@
 -- `emit` meets its contract: a cont row is added and then a call row, both of marks that the rules reach, with their masks kept to the list and
 -- taken to the shape's numbering. Assumes nothing.
-use Rattle.std.proofs.Common.{rules}
 use native.Mathlib.Omega.{arith}
-use borrow.Author.Rules.{rules}
 use mathlib.Core.Path.{refl}
 use Rattle.steps.proofs.Emitting.{added_writable, place_few, order_small, place_shape, cont_stepped, emitted_full, emitted_both}
 use Rattle.steps.proofs.place.emit.Goals as goal

@@ -1,6 +1,4 @@
 -- `forget_notes` meets its contract: both words that count notes are 0. Assumes nothing.
-use Rattle.std.proofs.Common.{rules}
-use borrow.Author.Rules.{rules}
 use Rattle.steps.proofs.NotedUnifiers.{notes_forgotten}
 use Rattle.steps.proofs.unifiers.forget_notes.Goals as goal
 

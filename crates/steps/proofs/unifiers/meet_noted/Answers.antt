@@ -1,7 +1,5 @@
 -- `meet_noted` meets its contract: the next note is of this shape where its first word says so, and else nothing is taken. Assumes nothing.
-use Rattle.std.proofs.Common.{rules}
 use native.Mathlib.Omega.{arith}
-use borrow.Author.Rules.{rules}
 use Rattle.steps.proofs.Meetings.{shape_few}
 use Rattle.steps.proofs.NotedUnifiers.{next_room, next_apart, next_within, next_bindings, next_unified}
 use Rattle.steps.proofs.unifiers.meet_noted.Goals as goal

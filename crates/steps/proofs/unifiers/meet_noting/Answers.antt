@@ -1,7 +1,5 @@
 -- `meet_noting` meets its contract: what is told of the shape and the atom is noted behind the notes, or nothing is. Assumes nothing.
-use Rattle.std.proofs.Common.{rules}
-use borrow.Author.Rules.{rules}
-use Rattle.steps.proofs.Meetings.{shape_few, store_sets}
+use Rattle.steps.proofs.Meetings.{shape_few}
 use Rattle.steps.proofs.unifiers.meet_noting.Goals as goal
 
 pub note_unified-requires : goal.note_unified-requires

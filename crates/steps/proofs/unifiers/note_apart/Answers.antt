@@ -1,7 +1,5 @@
 -- `note_apart` meets its contract: the shape's word stands behind the notes, and the notes end behind it. Assumes nothing.
-use Rattle.std.proofs.Common.{rules}
 use native.Mathlib.Omega.{arith}
-use borrow.Author.Rules.{rules}
 use Rattle.steps.proofs.NotedUnifiers.{note_apart}
 use Rattle.steps.proofs.unifiers.note_apart.Goals as goal
 

@@ -1,8 +1,6 @@
 -- `note_unified` meets its contract: the shape's word and its bindings stand behind the notes, and the notes end behind them. Assumes nothing.
-use Rattle.std.proofs.Common.{rules}
 use native.Mathlib.Omega.{arith}
 use mathlib.Core.Path.{refl}
-use borrow.Author.Rules.{rules}
 use Rattle.steps.proofs.NotedUnifiers.{note_unified}
 use Rattle.steps.proofs.unifiers.note_unified.Goals as goal
 

@@ -1,7 +1,5 @@
 -- `noted_set` meets its contract: a set is its two words. Assumes nothing.
-use Rattle.std.proofs.Common.{rules}
 use native.Mathlib.Omega.{arith}
-use borrow.Author.Rules.{rules}
 use Rattle.terms.proofs.BytesPut.{set_is}
 use Rattle.terms.proofs.bytes.noted_set.Goals as goal
 

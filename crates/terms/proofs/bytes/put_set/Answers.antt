@@ -1,6 +1,4 @@
 -- `put_set` meets its contract: the set's two words are put. Assumes nothing.
-use Rattle.std.proofs.Common.{rules}
-use borrow.Author.Rules.{rules}
 use Rattle.terms.proofs.BytesPut.{set_put}
 use Rattle.terms.proofs.bytes.put_set.Goals as goal
 

@@ -1,7 +1,5 @@
 -- `word_at` meets its contract: a word is its two bytes. Assumes nothing.
-use Rattle.std.proofs.Common.{rules}
 use native.Mathlib.Omega.{arith}
-use borrow.Author.Rules.{rules}
 use Rattle.terms.proofs.BytesPut.{word_is}
 use Rattle.terms.proofs.bytes.word_at.Goals as goal
 

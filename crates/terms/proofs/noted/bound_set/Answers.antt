@@ -1,14 +1,7 @@
 -- `bound_set` meets its contract. The invariant: the set has the bound variables of those passed. The measure is how many variables are left.
 -- Assumes nothing.
-use Rattle.std.proofs.Common.{rules}
-use Prim.Native.Nat.{◌-◌, ◌≤◌, ◌<◌}
 use native.Mathlib.Omega.{arith}
-use mathlib.Core.Logic.{⊎_elim}
-use mathlib.Core.Path.{◌≡◌}
-use lib.ListN.{get_or}
-use Rattle.terms.specs.Mask.{Marks}
-use Rattle.terms.specs.Store.{all_variables, no_place}
-use Rattle.terms.proofs.CodedPlaces.{bound_none, bound_more, bound_same}
+use Rattle.terms.proofs.CodedPlaces.{bound_more, bound_same}
 use Rattle.terms.proofs.noted.bound_set.Goals as goal
 use Rattle.terms.proofs.noted.bound_set.Goals.{else-places-x-lt-NO_PLACE, then-places-x-lt-NO_PLACE}
 

@@ -1,13 +1,9 @@
 -- `bound_set` meets its contract. The invariant: the set has the bound variables of those passed. The measure is how many variables are left.
 -- Assumes nothing.
 use Prim.Native.Nat.{◌-◌, ◌≤◌, ◌<◌}
-use native.Mathlib.Omega.{arith}
-use mathlib.Core.Logic.{⊎_elim}
-use mathlib.Core.Path.{◌≡◌}
 use lib.ListN.{get_or}
 use Rattle.terms.specs.Mask.{Marks}
 use Rattle.terms.specs.Store.{all_variables, no_place}
-use Rattle.terms.proofs.CodedPlaces.{bound_none, bound_more, bound_same}
 use Rattle.terms.proofs.noted.bound_set.Given as goal
 
 abbrev pub invariant-loop-x : goal.invariant-loop-x

@@ -1,6 +1,4 @@
 -- `put_bindings` meets its contract: the set is put, and behind it the places. Assumes nothing.
-use Rattle.std.proofs.Common.{rules}
-use borrow.Author.Rules.{rules}
 use Rattle.terms.proofs.NotedBindings.{bindings_put}
 use Rattle.terms.proofs.noted.put_bindings.Goals as goal
 

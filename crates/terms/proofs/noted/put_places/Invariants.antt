@@ -1,12 +1,9 @@
 -- `put_places` meets its contract. The invariant: the places of the variables passed are put. The measure is how many variables are left.
 -- Assumes nothing.
 use Prim.Native.Nat.{◌+◌, ◌-◌, ◌≤◌}
-use native.Mathlib.Omega.{arith}
-use mathlib.Core.Logic.{⊎_elim}
 use mathlib.Core.Path.{◌≡◌}
 use Rattle.terms.specs.Store.{all_variables}
 use Rattle.terms.specs.Noted.{count_of, PlacesPut}
-use Rattle.terms.proofs.CodedPlaces.{count_zero, count_above, count_in, count_out, put_none, put_out, put_in}
 use Rattle.terms.proofs.noted.put_places.Given as goal
 
 abbrev pub invariant-loop-x : goal.invariant-loop-x

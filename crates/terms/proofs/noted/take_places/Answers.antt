@@ -1,14 +1,11 @@
 -- `take_places` meets its contract. The invariant: the places of the variables passed are taken. The measure is how many variables are left.
 -- Assumes nothing.
-use Rattle.std.proofs.Common.{rules}
-use Prim.Native.Nat.{ℕ, ◌+◌, ◌-◌, ◌≤◌}
+use Prim.Native.Nat.{ℕ}
 use native.Mathlib.Omega.{arith}
-use mathlib.Core.Logic.{⊎_elim}
-use mathlib.Core.Path.{◌≡◌, ap}
+use mathlib.Core.Path.{ap}
 use lib.ListN.{get_or}
 use Rattle.terms.specs.Store.{all_variables}
-use Rattle.terms.specs.Noted.{count_of}
-use Rattle.terms.proofs.CodedPlaces.{count_zero, count_above, count_in, count_out, Taking, taking_none, taking_out, taking_in}
+use Rattle.terms.proofs.CodedPlaces.{count_zero, count_above, count_in, count_out, taking_none, taking_out, taking_in}
 use Rattle.terms.proofs.noted.take_places.Goals as goal
 use Rattle.terms.proofs.noted.take_places.Goals.{else-has, then-has}
 

@@ -1,11 +1,9 @@
 -- `sets_of` meets its contract. The invariant: the sets are those of the store with the bindings of the variables passed. The measure is what is
 -- left of the 32. Assumes nothing.
-use Rattle.std.proofs.Common.{rules}
-use Prim.Native.Nat.{◌-◌, ◌≤◌, ◌<◌}
+use Prim.Native.Nat.{◌<◌}
 use native.Mathlib.Omega.{arith}
 use mathlib.Core.Path.{◌≡◌}
-use mathlib.Core.Logic.{⊎_elim}
-use Rattle.terms.proofs.Refilled.{Refilled, refilled_none, whole_there, refilled_over, refilled_more, refilled_all}
+use Rattle.terms.proofs.Refilled.{refilled_none, whole_there, refilled_over, refilled_more, refilled_all}
 use Rattle.terms.proofs.sets.sets_of.Goals as goal
 use Rattle.terms.proofs.sets.sets_of.Goals.{else-place-lt-NO_PLACE, then-place-lt-NO_PLACE}
 

@@ -1,10 +1,7 @@
 -- `sets_of` meets its contract. The invariant: the sets are those of the store with the bindings of the variables passed. The measure is what is
 -- left of the 32. Assumes nothing.
-use Prim.Native.Nat.{◌-◌, ◌≤◌, ◌<◌}
-use native.Mathlib.Omega.{arith}
-use mathlib.Core.Path.{◌≡◌}
-use mathlib.Core.Logic.{⊎_elim}
-use Rattle.terms.proofs.Refilled.{Refilled, refilled_none, whole_there, refilled_over, refilled_more, refilled_all}
+use Prim.Native.Nat.{◌-◌, ◌≤◌}
+use Rattle.terms.proofs.Refilled.{Refilled}
 use Rattle.terms.proofs.sets.sets_of.Given as goal
 
 abbrev pub invariant-loop-x : goal.invariant-loop-x

@@ -1,19 +1,16 @@
 -- `unify_term` and `unify_terms` meet their contracts: each way on keeps the store's solutions and weighs less.
 -- Assumes nothing.
-use Rattle.std.proofs.Common.{rules}
-use Prim.Native.Nat.{suc, ◌+◌, ◌-◌, ◌*◌}
+use Prim.Native.Nat.{suc, ◌-◌}
 use mathlib.Core.Path.{◌≡◌, sym, subst}
 use mathlib.Core.Logic.{inl, inr}
 use native.Mathlib.Omega.{arith}
-use borrow.Author.Rules.{rules}
 use borrow.Author.Tests.{not-true, not-false}
 use Rattle.terms.specs.declared.unifier.Look.TheVariants.{Unbound, Function}
 use Rattle.terms.proofs.Standings.{cell_at}
 use Rattle.terms.proofs.Bound.{short_at}
 use Rattle.terms.specs.Unifying.{Compared}
 use Rattle.terms.proofs.Comparing.{Means, looked_as}
-use Rattle.terms.proofs.GoingOn.{load, follow_first, follow_first_lighter, follow_first_outcome, follow_second, follow_second_lighter, follow_second_outcome, bind_first, bind_first_outcome, bind_second, bind_second_outcome, same_outcome, differ_outcome, arguments, arguments_lighter, arguments_outcome, none_outcome, first_pair, first_pair_lighter, first_parted, others, others_lighter, others_outcome}
-use Prim.Native.Nat.{ℕ, ◌<◌}
+use Rattle.terms.proofs.GoingOn.{follow_first, follow_first_lighter, follow_first_outcome, follow_second, follow_second_lighter, follow_second_outcome, bind_first, bind_first_outcome, bind_second, bind_second_outcome, same_outcome, differ_outcome, arguments, arguments_lighter, arguments_outcome, first_pair, first_pair_lighter, first_parted, others, others_lighter, others_outcome}
 use Rattle.terms.proofs.unifier.+unify_term_unify_terms.Goals as goal
 
 pub unify_term-look_at-first-requires : goal.unify_term-look_at-first-requires

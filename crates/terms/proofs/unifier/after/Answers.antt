@@ -1,12 +1,10 @@
 -- `after` meets its contract: a variable's cell is a term by itself, and else the run's length is where the term ends. Assumes nothing.
-use Rattle.std.proofs.Common.{rules}
 use Prim.Native.Nat.{ℕ, ◌+◌}
 use mathlib.Core.Path.{ap, sym, ◌∙◌}
 use native.Mathlib.Omega.{arith}
 use lib.ListN.{length}
-use Rattle.terms.proofs.Steps.{run_cell, variable_one}
+use Rattle.terms.proofs.Steps.{run_cell}
 use Rattle.terms.proofs.Places.{run_length}
-use borrow.Author.Rules.{rules}
 use Rattle.terms.proofs.unifier.after.Goals as goal
 
 pub cell_at-requires : goal.cell_at-requires

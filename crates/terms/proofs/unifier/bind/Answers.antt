@@ -1,12 +1,10 @@
 -- `bind` meets its contract: the set that it gains is that of what the term stands for, so the test is the occurs check.
 -- Assumes nothing.
-use Rattle.std.proofs.Common.{rules}
 use lib.Dec.{T}
 use Rattle.terms.specs.Cells.{enc}
 use Rattle.terms.proofs.Walks.{Union}
 use Rattle.terms.proofs.Standings.{next_term}
 use Rattle.terms.proofs.Bound.{parted_bound, joined_bound}
-use borrow.Author.Rules.{rules}
 use Rattle.terms.proofs.unifier.bind.Goals as goal
 
 pub returns-then-has : goal.returns-then-has

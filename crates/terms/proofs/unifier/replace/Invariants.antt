@@ -1,14 +1,7 @@
 -- `replace` meets its contract. The invariant: the sets passed are replaced, the others are as they were. The measure is what is left of the 32.
 -- Assumes nothing.
 use Prim.Native.Nat.{◌-◌, ◌≤◌}
-use native.Mathlib.Omega.{arith}
-use borrow.Author.Rules.{rules}
-use mathlib.Core.Path.{refl}
-use mathlib.Core.Logic.{⊎_elim}
-use lib.ListN.{get_or}
-use lib.Dec.{T}
-use Rattle.terms.proofs.Replacing.{Halfway, replaced_with, replaced_without, halfway_more}
-use Rattle.terms.proofs.Without.{bit_within}
+use Rattle.terms.proofs.Replacing.{Halfway}
 use Rattle.terms.proofs.unifier.replace.Given as goal
 
 abbrev pub invariant-loop-y : goal.invariant-loop-y

@@ -1,11 +1,9 @@
 -- `resolve` meets its contract: the cells from the place on, cut where the term ends. Assumes nothing.
-use Rattle.std.proofs.Common.{rules}
 use Prim.Native.Nat.{◌-◌}
 use mathlib.Core.Path.{refl}
 use native.Mathlib.Nat.{le_of_lt}
-use Rattle.terms.proofs.Places.{cells_first, cells_second, run_place, first_run, second_run, run_length}
+use Rattle.terms.proofs.Places.{cells_first, run_place, first_run, second_run, run_length}
 use Rattle.terms.proofs.Parts.{part_from}
-use borrow.Author.Rules.{rules}
 use Rattle.terms.proofs.unifier.resolve.Goals as goal
 
 pub slice_bounds-run-count : goal.slice_bounds-run-count

@@ -1,6 +1,4 @@
 -- `set_at` meets its contract: a variable's cell has its own set, and the cells of another term are walked. Assumes nothing.
-use Rattle.std.proofs.Common.{rules}
-use borrow.Author.Rules.{rules}
 use Rattle.terms.proofs.RunVariables.{cells_enc}
 use Rattle.terms.proofs.Standings.{set_alone, next_term, cell_at}
 use Rattle.terms.proofs.unifier.set_at.Goals as goal

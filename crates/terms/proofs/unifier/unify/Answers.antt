@@ -1,7 +1,5 @@
 -- `unify` meets its contract: the arguments are compared from a store in which every variable stands for itself. Assumes nothing.
-use Rattle.std.proofs.Common.{rules}
-use Rattle.terms.proofs.Atoms.{first_some, second_some, first_predicate, predicates_apart, arguments_comparable, atoms_answer}
-use borrow.Author.Rules.{rules}
+use Rattle.terms.proofs.Atoms.{arguments_comparable, atoms_answer}
 use Rattle.terms.proofs.unifier.unify.Goals as goal
 
 pub unify_terms-requires : goal.unify_terms-requires

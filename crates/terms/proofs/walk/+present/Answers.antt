@@ -1,11 +1,9 @@
 -- `present` meets its contract: what the first cell adds to what the cells behind it have. The measure is the run's length.
 -- Assumes nothing.
-use Rattle.std.proofs.Common.{rules}
 use native.Mathlib.Omega.{arith}
-use borrow.Author.Rules.{rules}
 use lib.ListN.{length}
-use Rattle.terms.proofs.Walks.{present_none, present_function, present_variable, cells_behind, behind_shorter}
-use Prim.Native.Nat.{ℕ, ◌<◌}
+use Rattle.terms.proofs.Walks.{present_variable}
+use Prim.Native.Nat.{◌<◌}
 use Rattle.terms.proofs.walk.+present.Goals as goal
 
 pub returns : goal.returns

@@ -1,11 +1,9 @@
 -- `terms_end` meets its contract: a cell ends one of the terms that are left, or opens as many as its arity. The measure is the run's length.
 -- Assumes nothing.
-use Rattle.std.proofs.Common.{rules}
-use Prim.Native.Nat.{ℕ, ◌+◌, ◌-◌, ◌<◌}
+use Prim.Native.Nat.{ℕ, ◌+◌, ◌-◌}
 use mathlib.Core.Path.{◌≡◌, ap, ◌∙◌}
 use native.Mathlib.Omega.{arith}
 use lib.ListN.{length, drop, length-take, length-drop}
-use borrow.Author.Rules.{rules}
 use Rattle.terms.specs.Walk.{cells_of}
 use Rattle.terms.proofs.Steps.{behind, run_cell, run_many, run_within, function_declared, function_run, variable_run, function_cells, variable_cells}
 use Rattle.terms.proofs.walk.+terms_end.Goals as goal

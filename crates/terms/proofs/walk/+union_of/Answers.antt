@@ -1,11 +1,9 @@
 -- `union_of` meets its contract: the first cell's variable adds its set. The measure is the run's length.
 -- Assumes nothing.
-use Rattle.std.proofs.Common.{rules}
 use native.Mathlib.Omega.{arith}
-use borrow.Author.Rules.{rules}
 use lib.ListN.{length}
-use Rattle.terms.proofs.Walks.{union_none, union_function, union_variable, cells_behind, behind_shorter}
-use Prim.Native.Nat.{ℕ, ◌<◌}
+use Rattle.terms.proofs.Walks.{union_variable}
+use Prim.Native.Nat.{◌<◌}
 use Rattle.terms.proofs.walk.+union_of.Goals as goal
 
 pub returns : goal.returns

@@ -1,11 +1,8 @@
 -- `text::cut::find` meets its contract. The loop's invariant: what is left to find from `i` is what was to be found from `from`. Assumes nothing.
 use Prim.Native.Nat.{◌+◌, ◌-◌, ◌≤◌}
-use mathlib.Core.Path.{◌≡◌, refl}
-use native.Mathlib.Omega.{arith}
-use native.Mathlib.Numerals.{add-one}
+use mathlib.Core.Path.{◌≡◌}
 use lib.ListN.{length, drop}
 use Rattle.text.specs.Line.{up_to}
-use Rattle.text.proofs.Cuts.{up_to_here, up_to_past, up_to_ends}
 use Rattle.text.proofs.cut.find.Given as goal
 
 abbrev pub invariant-loop-i : goal.invariant-loop-i

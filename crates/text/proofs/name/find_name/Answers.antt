@@ -1,12 +1,9 @@
 -- `text::name::find_name` meets its contract. The loop's invariant: the search from `i` on decides. Assumes nothing.
-use Rattle.std.proofs.Common.{rules}
-use Prim.Native.Nat.{◌-◌, ◌≤◌, ◌<◌}
-use mathlib.Core.Path.{◌≡◌, refl, sym, ◌∙◌}
+use Prim.Native.Nat.{◌<◌}
+use mathlib.Core.Path.{sym, ◌∙◌}
 use native.Mathlib.Omega.{arith}
 use native.Mathlib.Numerals.{add-one}
-use borrow.Author.Rules.{rules}
-use Rattle.text.specs.Name.{seek, Hashed}
-use Rattle.text.proofs.Names.{seek_here, seek_past, seek_ends}
+use Rattle.text.proofs.Names.{seek_here, seek_past}
 use Rattle.text.proofs.name.find_name.Goals as goal
 
 pub loop-i-preserved : goal.loop-i-preserved

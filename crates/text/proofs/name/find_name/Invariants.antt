@@ -1,11 +1,7 @@
 -- `text::name::find_name` meets its contract. The loop's invariant: the search from `i` on decides. Assumes nothing.
-use Prim.Native.Nat.{◌-◌, ◌≤◌, ◌<◌}
-use mathlib.Core.Path.{◌≡◌, refl, sym, ◌∙◌}
-use native.Mathlib.Omega.{arith}
-use native.Mathlib.Numerals.{add-one}
-use borrow.Author.Rules.{rules}
+use Prim.Native.Nat.{◌-◌, ◌≤◌}
+use mathlib.Core.Path.{◌≡◌}
 use Rattle.text.specs.Name.{seek, Hashed}
-use Rattle.text.proofs.Names.{seek_here, seek_past, seek_ends}
 use Rattle.text.proofs.name.find_name.Given as goal
 
 abbrev pub invariant-loop-i : goal.invariant-loop-i

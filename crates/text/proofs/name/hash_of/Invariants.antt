@@ -1,12 +1,8 @@
 -- `text::name::hash_of` meets its contract. The loop's invariant: the bytes from `i` on make of `h` the key's hash. Assumes nothing.
 use Prim.Native.Nat.{◌-◌, ◌≤◌, ◌<◌}
-use mathlib.Core.Path.{◌≡◌, refl, sym, ◌∙◌}
-use native.Mathlib.Omega.{arith}
-use native.Mathlib.Numerals.{add-one}
-use borrow.Author.Rules.{rules}
+use mathlib.Core.Path.{◌≡◌}
 use lib.ListN.{length, drop}
 use Rattle.text.specs.Name.{hash_of, hash_from, hash_below}
-use Rattle.text.proofs.Names.{hash_from_step, hash_from_ends}
 use Rattle.text.proofs.name.hash_of.Given as goal
 
 abbrev pub invariant-loop-i : goal.invariant-loop-i

@@ -1,9 +1,7 @@
 -- `text::name::is_at` meets its contract: where the hashes differ, so do the names. Assumes nothing.
-use Rattle.std.proofs.Common.{rules}
 use mathlib.Core.Path.{sym, ◌∙◌}
 use Rattle.text.proofs.Names.{hashes_apart}
 use Rattle.text.specs.Name.{entry}
-use borrow.Author.Rules.{rules}
 use Rattle.text.proofs.name.is_at.Goals as goal
 
 pub returns-then-its-hash : goal.returns-then-its-hash

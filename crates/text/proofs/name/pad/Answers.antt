@@ -1,13 +1,12 @@
 -- `text::name::pad` meets its contract. The loop's invariant: the key holds the bytes so far. Assumes nothing.
-use Rattle.std.proofs.Common.{rules}
-use Prim.Native.Nat.{ℕ, ◌-◌, ◌≤◌, ◌<◌}
-use mathlib.Core.Path.{◌≡◌, refl, sym, ◌∙◌, ap}
+use Prim.Native.Nat.{ℕ, ◌<◌}
+use mathlib.Core.Path.{sym, ◌∙◌, ap}
 use native.Mathlib.Omega.{arith}
 use native.Mathlib.Numerals.{add-one}
 use lib.ListN.{length, take, get_or, set}
-use lib.Seq.{take-suc, take_all, length-take-le}
+use lib.Seq.{take-suc, length-take-le}
 use Rattle.text.specs.Name.{padded, name_bytes}
-use Rattle.text.proofs.Rooms.{set_behind, in_room_take}
+use Rattle.text.proofs.Rooms.{set_behind}
 use Rattle.text.proofs.name.pad.Goals as goal
 
 pub loop-i-preserved : goal.loop-i-preserved

@@ -1,11 +1,9 @@
 -- `text::name::same_bytes` meets its contract. The loop's invariant: the bytes from `i` on decide. Assumes nothing.
 use Prim.Native.Nat.{◌-◌, ◌≤◌}
-use mathlib.Core.Path.{◌≡◌, refl, sym, ◌∙◌}
-use native.Mathlib.Omega.{arith}
-use native.Mathlib.Numerals.{add-one}
+use mathlib.Core.Path.{◌≡◌}
 use lib.ListN.{length}
 use Rattle.text.specs.Name.{same}
-use Rattle.text.proofs.Names.{same_from, same_goes_on, same_fails, same_ends, lengths_apart}
+use Rattle.text.proofs.Names.{same_from}
 use Rattle.text.proofs.name.same_bytes.Given as goal
 
 abbrev pub invariant-loop-i : goal.invariant-loop-i

@@ -1,12 +1,11 @@
 -- `text::name::stands_at` meets its contract. The loop's invariant: the bytes from `i` on decide. Assumes nothing.
-use Rattle.std.proofs.Common.{rules}
-use Prim.Native.Nat.{◌-◌, ◌≤◌, ◌<◌}
-use mathlib.Core.Path.{◌≡◌, refl, sym, ◌∙◌}
+use Prim.Native.Nat.{◌<◌}
+use mathlib.Core.Path.{sym, ◌∙◌}
 use native.Mathlib.Omega.{arith}
 use native.Mathlib.Numerals.{add-one}
 use lib.ListN.{length, drop, take, length-take, length-drop}
-use Rattle.text.specs.Name.{name_bytes, same}
-use Rattle.text.proofs.Names.{same_from, same_goes_on, same_fails, same_ends, get_d_entry}
+use Rattle.text.specs.Name.{name_bytes}
+use Rattle.text.proofs.Names.{same_goes_on, same_fails, get_d_entry}
 use Rattle.text.proofs.name.stands_at.Goals as goal
 
 pub returns-then-names-from : goal.returns-then-names-from

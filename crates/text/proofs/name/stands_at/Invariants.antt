@@ -1,11 +1,9 @@
 -- `text::name::stands_at` meets its contract. The loop's invariant: the bytes from `i` on decide. Assumes nothing.
-use Prim.Native.Nat.{◌-◌, ◌≤◌, ◌<◌}
-use mathlib.Core.Path.{◌≡◌, refl, sym, ◌∙◌}
-use native.Mathlib.Omega.{arith}
-use native.Mathlib.Numerals.{add-one}
-use lib.ListN.{length, drop, take, length-take, length-drop}
+use Prim.Native.Nat.{◌-◌, ◌≤◌}
+use mathlib.Core.Path.{◌≡◌}
+use lib.ListN.{drop, take}
 use Rattle.text.specs.Name.{name_bytes, same}
-use Rattle.text.proofs.Names.{same_from, same_goes_on, same_fails, same_ends, get_d_entry}
+use Rattle.text.proofs.Names.{same_from}
 use Rattle.text.proofs.name.stands_at.Given as goal
 
 abbrev pub invariant-loop-k : goal.invariant-loop-k

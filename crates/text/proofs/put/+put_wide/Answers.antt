@@ -1,11 +1,7 @@
 -- `text::put::put_wide` meets its contract: the digits before the last are a smaller number's. The measure is the number. Assumes nothing.
-use Rattle.std.proofs.Common.{rules}
-use Prim.Native.Nat.{ℕ, ◌<◌}
-use mathlib.Core.Path.{◌∙◌}
 use native.Mathlib.Omega.{arith}
-use borrow.Author.Rules.{rules}
 use Rattle.text.proofs.Decimals.{decimal_one, decimal_more}
-use Rattle.text.proofs.Puts.{put_append, put_length}
+use Rattle.text.proofs.Puts.{put_append}
 use Rattle.text.proofs.put.+put_wide.Goals as goal
 
 pub returns : goal.returns

@@ -1,10 +1,7 @@
 -- `text::put::clear` meets its contract. The loop's invariant: what is left of the room decides. Assumes nothing.
-use Rattle.std.proofs.Common.{rules}
-use Prim.Native.Nat.{ℕ, ◌+◌, ◌-◌, ◌≤◌, ◌<◌}
-use mathlib.Core.Path.{◌≡◌, refl, sym, ap, ◌∙◌}
+use mathlib.Core.Path.{◌∙◌}
 use native.Mathlib.Omega.{arith}
-use lib.ListN.{length, take, set, length-set}
-use Rattle.text.specs.Room.{in_room}
+use lib.ListN.{length-set}
 use Rattle.text.proofs.Rooms.{cleared_more, cleared_all}
 use Rattle.text.proofs.put.clear.Goals as goal
 

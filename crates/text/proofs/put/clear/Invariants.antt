@@ -1,10 +1,8 @@
 -- `text::put::clear` meets its contract. The loop's invariant: what is left of the room decides. Assumes nothing.
-use Prim.Native.Nat.{ℕ, ◌+◌, ◌-◌, ◌≤◌, ◌<◌}
-use mathlib.Core.Path.{◌≡◌, refl, sym, ap, ◌∙◌}
-use native.Mathlib.Omega.{arith}
-use lib.ListN.{length, take, set, length-set}
+use Prim.Native.Nat.{◌-◌}
+use mathlib.Core.Path.{◌≡◌}
+use lib.ListN.{length, take}
 use Rattle.text.specs.Room.{in_room}
-use Rattle.text.proofs.Rooms.{cleared_more, cleared_all}
 use Rattle.text.proofs.put.clear.Given as goal
 
 abbrev pub invariant-loop-i : goal.invariant-loop-i

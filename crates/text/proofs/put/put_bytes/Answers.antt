@@ -1,15 +1,10 @@
 -- `text::put::put_bytes` meets its contract. The loop's invariant: the bytes so far are written. Assumes nothing.
-use Rattle.std.proofs.Common.{rules}
-use Prim.Native.Nat.{ℕ, ◌-◌, ◌≤◌, ◌<◌}
-use mathlib.Core.Path.{◌≡◌, sym, ◌∙◌, subst}
-use mathlib.Core.List.{List}
+use Prim.Native.Nat.{◌<◌}
 use native.Mathlib.Omega.{arith}
 use native.Mathlib.Numerals.{add-one}
-use borrow.Author.Rules.{rules}
-use lib.ListN.{length, take}
-use lib.Seq.{take-suc, take_all}
-use Rattle.text.specs.Put.{Put}
-use Rattle.text.proofs.Puts.{put_nothing, put_append, put_length}
+use lib.ListN.{length}
+use lib.Seq.{take-suc}
+use Rattle.text.proofs.Puts.{put_append}
 use Rattle.text.proofs.put.put_bytes.Goals as goal
 
 pub loop-i-preserved : goal.loop-i-preserved

@@ -1,19 +1,16 @@
 -- `text::put::put_name` meets its contract. The loop's invariant: the bytes so far are no zeros, and are written. Assumes nothing.
-use Rattle.std.proofs.Common.{rules}
-use Prim.Native.Nat.{ℕ, ◌+◌, ◌-◌, ◌*◌, ◌≤◌, ◌<◌}
-use mathlib.Core.Path.{◌≡◌, refl, sym, ap, ◌∙◌, subst}
+use Prim.Native.Nat.{ℕ, ◌*◌, ◌<◌}
+use mathlib.Core.Path.{◌≡◌, sym, ◌∙◌, subst}
 use mathlib.Core.List.{List}
 use native.Mathlib.Omega.{arith}
 use native.Mathlib.Numerals.{add-one}
-use borrow.Author.Rules.{rules}
-use lib.ListN.{length, take, get_or}
+use lib.ListN.{length}
 use lib.Seq.{take-suc}
-use Rattle.text.specs.Line.{up_to}
 use Rattle.text.specs.Name.{name_bytes, entry}
 use Rattle.text.specs.Put.{Put}
-use Rattle.text.proofs.Cuts.{Passed, passed_here, passed_more, passed_all}
+use Rattle.text.proofs.Cuts.{passed_here, passed_more, passed_all}
 use Rattle.text.proofs.Names.{get_d_entry, length_entry}
-use Rattle.text.proofs.Puts.{put_nothing, put_append, put_length}
+use Rattle.text.proofs.Puts.{put_append}
 use Rattle.text.proofs.put.put_name.Goals as goal
 
 pub returns-then-b-eq0 : goal.returns-then-b-eq0

@@ -1,13 +1,8 @@
 -- `text::token::all_digits` meets its contract. The loop's invariant: what holds of the bytes from `i` on decides. Assumes nothing.
-use Prim.Native.Nat.{◌-◌, ◌≤◌, ◌<◌}
-use mathlib.Core.Path.{◌≡◌, refl, sym, ◌∙◌}
-use native.Mathlib.Omega.{arith}
-use native.Mathlib.Numerals.{add-one}
-use borrow.Author.Rules.{rules}
-use borrow.Author.Tests.{not-true, not-false}
+use Prim.Native.Nat.{◌-◌, ◌≤◌}
+use mathlib.Core.Path.{◌≡◌}
 use lib.ListN.{length, drop}
 use Rattle.text.specs.Token.{every, is_digit}
-use Rattle.text.proofs.Tokens.{every_fails, every_goes_on, every_ends}
 use Rattle.text.proofs.token.all_digits.Given as goal
 
 abbrev pub invariant-loop-i : goal.invariant-loop-i

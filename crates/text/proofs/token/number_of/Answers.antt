@@ -1,13 +1,11 @@
 -- `text::token::number_of` meets its contract: each test is the definition's. Assumes nothing.
-use Rattle.std.proofs.Common.{rules}
 use Prim.Native.Nat.{◌<◌}
 use mathlib.Core.Path.{sym, ◌∙◌, ap}
 use native.Mathlib.Omega.{arith}
 use lib.ListN.{length, drop, length-drop}
-use borrow.Author.Tests.{not-true, not-false}
-use Rattle.text.proofs.Tokens.{is_number_of, is_number_empty}
+use borrow.Author.Tests.{not-false}
+use Rattle.text.proofs.Tokens.{is_number_of}
 use Rattle.text.specs.declared.token.Number.TheVariants.{Value}
-use borrow.Author.Rules.{rules}
 use Rattle.text.proofs.token.number_of.Goals as goal
 
 pub returns : goal.returns

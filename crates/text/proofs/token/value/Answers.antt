@@ -1,12 +1,11 @@
 -- `text::token::value` meets its contract. The loop's invariant: with the digits from `i` on behind it, `n` comes to the value, as far as the cap. Assumes nothing.
-use Rattle.std.proofs.Common.{rules}
-use Prim.Native.Nat.{suc, ◌+◌, ◌-◌, ◌*◌, ◌≤◌, ◌<◌, min}
-use mathlib.Core.Path.{◌≡◌, refl, sym, ◌∙◌, ap}
+use Prim.Native.Nat.{suc, ◌+◌, ◌-◌, ◌*◌, ◌<◌, min}
+use mathlib.Core.Path.{sym, ◌∙◌, ap}
 use native.Mathlib.Omega.{arith}
 use native.Mathlib.Numerals.{add-one}
 use lib.ListN.{length, drop, get_or}
-use Rattle.text.specs.Token.{capped, value_from, too_large, digit0}
-use Rattle.text.proofs.Tokens.{value_from_step, value_from_ends, capped_alike}
+use Rattle.text.specs.Token.{too_large, digit0}
+use Rattle.text.proofs.Tokens.{value_from_step, capped_alike}
 use Rattle.text.proofs.token.value.Goals as goal
 
 pub loop-i-preserved : goal.loop-i-preserved

@@ -1,11 +1,8 @@
 -- `text::token::value` meets its contract. The loop's invariant: with the digits from `i` on behind it, `n` comes to the value, as far as the cap. Assumes nothing.
-use Prim.Native.Nat.{suc, ◌+◌, ◌-◌, ◌*◌, ◌≤◌, ◌<◌, min}
-use mathlib.Core.Path.{◌≡◌, refl, sym, ◌∙◌, ap}
-use native.Mathlib.Omega.{arith}
-use native.Mathlib.Numerals.{add-one}
-use lib.ListN.{length, drop, get_or}
-use Rattle.text.specs.Token.{capped, value_from, too_large, digit0}
-use Rattle.text.proofs.Tokens.{value_from_step, value_from_ends, capped_alike}
+use Prim.Native.Nat.{◌-◌, ◌≤◌, min}
+use mathlib.Core.Path.{◌≡◌}
+use lib.ListN.{length, drop}
+use Rattle.text.specs.Token.{capped, value_from, too_large}
 use Rattle.text.proofs.token.value.Given as goal
 
 abbrev pub invariant-loop-i : goal.invariant-loop-i

@@ -1,9 +1,7 @@
 -- `text::token::zero_first` meets its contract. Assumes nothing.
-use Rattle.std.proofs.Common.{rules}
 use mathlib.Core.Path.{sym}
 use native.Mathlib.Omega.{arith}
-use Rattle.text.proofs.Tokens.{zero_first_of, zero_first_one}
-use borrow.Author.Rules.{rules}
+use Rattle.text.proofs.Tokens.{zero_first_one}
 use Rattle.text.proofs.token.zero_first.Goals as goal
 
 pub returns : goal.returns
