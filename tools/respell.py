@@ -75,9 +75,19 @@ def imports(text, ours):
     return kept
 
 
+COMMENT = re.compile(r"(?m)(?:^|(?<=\s))(?:--\s|//)[^\n]*")
+
+
 def turn_antt(text, names, ours):
     kept = imports(text, ours)
-    return WORD.sub(lambda m: names.get(m.group(0), m.group(0)) if m.group(0) not in kept else m.group(0), text)
+    comments = [m.span() for m in COMMENT.finditer(text)]
+
+    def word(m):
+        # in a comment `ground` is English
+        said = m.group(0) == "ground" and any(a <= m.start() < b for a, b in comments)
+        return m.group(0) if said or m.group(0) in kept else names.get(m.group(0), m.group(0))
+
+    return WORD.sub(word, text)
 
 
 def spans(text):
@@ -96,13 +106,13 @@ def spans(text):
 
 def turn_rt(text, names, ours):
     kept = imports(text, ours)
-    word = lambda m: names.get(m.group(0), m.group(0)) if m.group(0) not in kept else m.group(0)
     out, at = [], 0
     for a, b in spans(text):
         if a < at:
             continue
         out.append(text[at:a])
-        out.append(WORD.sub(word, text[a:b]))
+        said = text[a:b].startswith("//")
+        out.append(WORD.sub(lambda m: m.group(0) if m.group(0) in kept or said and m.group(0) == "ground" else names.get(m.group(0), m.group(0)), text[a:b]))
         at = b
     return "".join(out) + text[at:]
 
@@ -143,7 +153,8 @@ def main(argv):
         elif path.endswith(".rt"):
             turn = turn_rt
         elif path.endswith(".edit"):
-            turn = turn_antt
+            # no edit's text has a definition's `ground`: what has that name there is a variable of the code
+            turn = lambda t, n, o: turn_antt(t, {k: v for k, v in n.items() if k != "ground"}, o)
         elif path.endswith(".md") and (path.startswith("docs/") or path == "README.md"):
             turn = lambda t, n, o: re.sub(r"`[^`\n]*`", lambda m: WORD.sub(lambda w: n.get(w.group(0), w.group(0)), m.group(0)), t)
         else:
