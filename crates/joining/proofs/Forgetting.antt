@@ -17,6 +17,7 @@ use Rattle.joining.specs.Answers.{Listing}
 -- a member of the first n has its place
 pub member_at : (l : List ℕ) (n q : ℕ) → Memᴰ q (take n l) → (k : ℕ) × (k < n) × (get_or l k 0 ≡ q)
 member_at [] n q m = absurd (Memᴰ.not-nil (rw (take-nil {A = ℕ} n) at m))
+member_at (a ∷ l) zero q m = elim m [ ]
 member_at (a ∷ l) (suc n) q (Memᴰ.head e) = (0, omega arith, sym e)
 member_at (a ∷ l) (suc n) q (Memᴰ.tail m) = let (k, h, e) = member_at l n q m in (suc k, omega arith, e)
 

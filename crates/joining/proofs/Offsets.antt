@@ -1,5 +1,5 @@
 -- Numbers of words: what the code asks of one before it reads there, from a bound on how far behind the beginning of its part the word stands.
-use Prim.Native.Nat.{ℕ, ◌+◌, ◌*◌, ◌≤◌, ◌<◌}
+use Prim.Native.Nat.{ℕ, ◌+◌, ◌*◌, ◌<◌}
 use native.Mathlib.Omega.{arith}
 use mathlib.Core.Path.{◌≡◌}
 use lib.Dec.{T, leb, leb→le}
