@@ -1,0 +1,28 @@
+-- `of_shape` meets its contract: a shape without a call row to look at, or apart from the head, gives nothing; else its call rows are met. Assumes nothing.
+use Rattle.std.proofs.Common.{rules}
+use native.Mathlib.Omega.{arith}
+use borrow.Author.Rules.{rules}
+use borrow.Author.Tests.{not-true, not-false}
+use Rattle.ends.proofs.OneShape.{shape_few, shape_in_heads, shape_meets, shape_met, shape_empty, shape_apart}
+use Rattle.ends.proofs.heads.of_shape.Goals as goal
+
+pub offset_bounds-heads-s : goal.offset_bounds-heads-s
+offset_bounds-heads-s c = omega (arith, shape_few c.requires.0)
+
+pub bounds-heads-s : goal.bounds-heads-s
+bounds-heads-s c = shape_in_heads c.requires.0
+
+pub returns-then-newest-from : goal.returns-then-newest-from
+returns-then-newest-from c = (λ a. shape_empty a _ _ _ _ c.requires.1 (rw c.wide-newest.ensures.0 at c.if-newest-from.true), c.requires.4)
+
+pub meet_noted-requires : goal.meet_noted-requires
+meet_noted-requires c = (shape_meets c.requires.0, c.requires.4)
+
+pub returns-then-not-meet_noted : goal.returns-then-not-meet_noted
+returns-then-not-meet_noted c = (λ a. shape_apart a _ _ _ _ c.requires.1 (rw (not-true c.meet_noted.result c.if-not-meet_noted.true-raw) at (c.meet_noted.ensures.0 (shape_meets a))), c.meet_noted.ensures.1)
+
+pub at_shape-requires : goal.at_shape-requires
+at_shape-requires c = let (a, writable, behind, size, _) = c.requires in (shape_met a c.wide-newest.ensures.0 (rw (not-false c.meet_noted.result c.if-not-meet_noted.false-raw) at (c.meet_noted.ensures.0 (shape_meets a))), writable, behind, size)
+
+pub returns : goal.returns
+returns c = (λ a. c.at_shape.ensures (shape_met a c.wide-newest.ensures.0 (rw (not-false c.meet_noted.result c.if-not-meet_noted.false-raw) at (c.meet_noted.ensures.0 (shape_meets a)))), c.meet_noted.ensures.1)
