@@ -57,7 +57,10 @@ fn variable_at(seen: usize, modes: &[u16], v: usize, grounded: bool) -> Look
             return Look::Fault(BOTH_MODES);
         }
     }
-    Look::Variable { number: v, grounded }
+    Look::Variable {
+        number: v,
+        grounded,
+    }
 }
 
 // A symbol that is declared, from number `from` on and below number `to`.
