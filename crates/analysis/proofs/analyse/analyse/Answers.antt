@@ -1,8 +1,6 @@
 -- `analyse` meets its contract: the scan accepts the words, or its reply is the fault's. Assumes nothing.
-use Rattle.std.proofs.Common.{rules}
 use mathlib.Core.Path.{refl}
 use Rattle.analysis.proofs.Replies.{refused_faulty}
-use borrow.Author.Rules.{rules}
 use Rattle.program.proofs.FaultNumbers.{accepted_sound}
 use Rattle.analysis.proofs.analyse.analyse.Goals as goal
 

@@ -1,5 +1,4 @@
 -- `finish` meets its contract: the rows sorted and unpacked are the table of the program, with zeros behind it. Assumes nothing.
-use Rattle.std.proofs.Common.{rules}
 use Prim.Native.Nat.{ℕ, ◌-◌, ◌*◌, ◌<◌}
 use native.Mathlib.Omega.{arith}
 use mathlib.Core.Path.{◌≡◌, ap, ◌∙◌}
@@ -10,7 +9,6 @@ use Rattle.table.specs.Table.{table_words}
 use Rattle.table.proofs.Promise.{table_words_length}
 use Rattle.analysis.proofs.Replies.{zeros_behind}
 use Rattle.analysis.proofs.LastRows.{last_packed, last_table, last_many}
-use borrow.Author.Rules.{rules}
 use Rattle.analysis.proofs.analyse.finish.Goals as goal
 
 pub unpack-requires : goal.unpack-requires

@@ -1,5 +1,4 @@
 -- `tabled` meets its contract: the rounds end in the table of the program, or in more rows than the room. Assumes nothing.
-use Rattle.std.proofs.Common.{rules}
 use Prim.Native.Nat.{ℕ}
 use native.Mathlib.Omega.{arith}
 use mathlib.Core.Path.{refl, ap, ◌∙◌}
@@ -7,7 +6,6 @@ use lib.ListN.{length, replicate}
 use Rattle.program.specs.Reply.{no_room, refused}
 use Rattle.table.specs.Promise.{full}
 use Rattle.analysis.proofs.Replies.{setting_of, room_fits, past_more, within_complete, table_listed}
-use borrow.Author.Rules.{rules}
 use Rattle.analysis.proofs.analyse.tabled.Goals as goal
 
 pub rounds-rows-requires : goal.rounds-rows-requires

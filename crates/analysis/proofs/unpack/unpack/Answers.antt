@@ -1,11 +1,7 @@
 -- `unpack` meets its contract: the rows passed are entries. The measure is how many are left. Assumes nothing.
-use Rattle.std.proofs.Common.{rules}
-use Prim.Native.Nat.{◌-◌, ◌≤◌}
 use native.Mathlib.Omega.{arith}
-use mathlib.Core.Path.{◌≡◌, refl, ◌∙◌}
-use lib.ListN.{length}
-use Rattle.analysis.specs.Unpacked.{Packed}
-use Rattle.analysis.proofs.Unpacking.{Passed, passed_none, row_stands, row_passed, passed_all}
+use mathlib.Core.Path.{◌∙◌}
+use Rattle.analysis.proofs.Unpacking.{row_stands, row_passed, passed_all}
 use Rattle.analysis.proofs.unpack.unpack.Goals as goal
 
 pub unpack_row-requires : goal.unpack_row-requires

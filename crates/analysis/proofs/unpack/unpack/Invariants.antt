@@ -1,10 +1,9 @@
 -- `unpack` meets its contract: the rows passed are entries. The measure is how many are left. Assumes nothing.
 use Prim.Native.Nat.{◌-◌, ◌≤◌}
-use native.Mathlib.Omega.{arith}
-use mathlib.Core.Path.{◌≡◌, refl, ◌∙◌}
+use mathlib.Core.Path.{◌≡◌}
 use lib.ListN.{length}
 use Rattle.analysis.specs.Unpacked.{Packed}
-use Rattle.analysis.proofs.Unpacking.{Passed, passed_none, row_stands, row_passed, passed_all}
+use Rattle.analysis.proofs.Unpacking.{Passed}
 use Rattle.analysis.proofs.unpack.unpack.Given as goal
 
 abbrev pub invariant-loop-r : goal.invariant-loop-r

@@ -1,13 +1,11 @@
 -- `unpack_row` meets its contract: where the slot stands says the row's kind. Assumes nothing.
-use Rattle.std.proofs.Common.{rules}
 use Prim.Native.Nat.{◌+◌, ◌-◌, ◌≤◌}
 use native.Mathlib.Omega.{arith}
 use mathlib.Core.Path.{◌≡◌, ◌∙◌}
 use lib.ListN.{get_or}
 use Rattle.table.specs.Keys.{first_cont}
 use Rattle.concerns.proofs.BodyClauses.{clause_few, place_few, place_left, cont_body}
-use Rattle.analysis.proofs.Unpacking.{as_call, as_cont, as_solution}
-use borrow.Author.Rules.{rules}
+use Rattle.analysis.proofs.Unpacking.{as_cont, as_solution}
 use Rattle.analysis.proofs.unpack.unpack_row.Goals as goal
 
 pub clause_of-k-requires : goal.clause_of-k-requires

@@ -1,9 +1,7 @@
 -- `clause` meets its contract: rows for the body atoms behind the first, and then what a round looks at with the head. Assumes nothing.
-use Rattle.std.proofs.Common.{rules}
 use native.Mathlib.Omega.{arith}
-use borrow.Author.Rules.{rules}
-use mathlib.Core.Path.{◌≡◌, sym, ap, ◌∙◌}
-use mathlib.Core.Logic.{inl, inr, ⊎_elim}
+use mathlib.Core.Path.{◌≡◌, ◌∙◌}
+use mathlib.Core.Logic.{inl, inr}
 use lib.ListN.{length, replicate}
 use Rattle.program.specs.Limits.{max_rows}
 use Rattle.rows.specs.Rows.{keys_of}

@@ -1,18 +1,10 @@
 -- `middle_places` meets its contract: the places passed have their rows. The measure is how many are left. Assumes nothing.
-use Rattle.std.proofs.Common.{rules}
-use Prim.Native.Nat.{◌-◌, ◌≤◌}
 use native.Mathlib.Omega.{arith}
-use mathlib.Core.Path.{◌≡◌, refl, sym, ◌∙◌}
+use mathlib.Core.Path.{refl, ◌∙◌}
 use mathlib.Core.Logic.{inr}
-use lib.ListN.{length, replicate}
-use Rattle.rows.specs.Rows.{keys_of}
-use Rattle.rows.specs.MaskSet.{set_words}
-use Rattle.steps.specs.Steps.{Given, Grew}
-use Rattle.clauses.specs.Clauses.{MiddlesAsked, PastPlaces}
 use Rattle.steps.proofs.Stepping.{stepped_within, stepped_past}
-use Rattle.joining.specs.KeptAnswers.{KeepsAnswers}
 use Rattle.joining.proofs.KeptPlaces.{step_keeps_answers, keeps_answers}
-use Rattle.clauses.proofs.MiddlePlaces.{middle_asked, middle_next, middles_begin, middles_end}
+use Rattle.clauses.proofs.MiddlePlaces.{middle_asked, middle_next, middles_begin}
 use Rattle.clauses.proofs.clauses.middle_places.Goals as goal
 
 pub loop-j-init : goal.loop-j-init

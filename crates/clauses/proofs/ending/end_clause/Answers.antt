@@ -1,8 +1,5 @@
 -- `end_clause` meets its contract, whether the marks of the clause are kept or not. Assumes nothing.
-use Rattle.std.proofs.Common.{rules}
 use native.Mathlib.Omega.{arith}
-use borrow.Author.Rules.{rules}
-use mathlib.Core.Path.{◌∙◌}
 use Rattle.ends.proofs.ClauseRows.{clause_few}
 use Rattle.ends.proofs.KeptMarks.{step_keeps, keeps_marks}
 use Rattle.clauses.proofs.ending.end_clause.Goals as goal

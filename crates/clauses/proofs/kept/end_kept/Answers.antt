@@ -1,11 +1,8 @@
 -- `end_kept` meets its contract: kept marks have gone to the call rows that are known, so they go to the others, and new marks to all. Assumes nothing.
-use Rattle.std.proofs.Common.{rules}
 use Prim.Native.Nat.{ℕ, ◌+◌, ◌-◌, ◌*◌, ◌%◌, ◌^◌, ◌≤◌}
 use native.Mathlib.Omega.{arith}
-use borrow.Author.Rules.{rules}
 use mathlib.Core.Path.{◌≡◌, refl, ap, ◌∙◌}
-use mathlib.Core.Logic.{⊎_elim}
-use lib.ListN.{length, get_or, take, drop, replicate, length-replicate, length-set}
+use lib.ListN.{length, get_or, take, drop, replicate, length-replicate}
 use Rattle.directory.specs.Layout.{clause_vars}
 use Rattle.rows.specs.MaskSet.{set_words}
 use Rattle.rows.proofs.ClearedMarks.{marks_shifted}
@@ -19,7 +16,7 @@ use Rattle.ends.proofs.HeadMarks.{marked_empty}
 use Rattle.ends.proofs.KeptMarks.{kept_on}
 use Rattle.ends.proofs.Endings.{new_all, new_none}
 use Rattle.clauses.proofs.HeadSteps.{answers_after}
-use Rattle.clauses.proofs.KeptEnds.{kept_room, kept_fits, kept_cleared, kept_stepped, kept_after}
+use Rattle.clauses.proofs.KeptEnds.{kept_room, kept_cleared, kept_stepped, kept_after}
 use Rattle.clauses.proofs.kept.end_kept.Goals as goal
 use Rattle.clauses.proofs.kept.end_kept.Goals.{else-at-known, else-take_kept, then-at-known, then-take_kept}
 

@@ -1,11 +1,8 @@
 -- `end_wide` meets its contract: where a call row is new, the set has all marks that result, else those of a new row. Assumes nothing.
-use Rattle.std.proofs.Common.{rules}
 use Prim.Native.Nat.{ℕ, ◌+◌, ◌/◌, ◌^◌, ◌≤◌}
 use native.Mathlib.Omega.{arith}
 use native.Mathlib.Nat.{le_refl}
-use borrow.Author.Rules.{rules}
 use mathlib.Core.Path.{◌≡◌, refl, ap, ◌∙◌}
-use mathlib.Core.Logic.{⊎_elim}
 use mathlib.Core.List.{[]}
 use lib.ListN.{length, get_or, replicate}
 use Rattle.directory.specs.Directory.{predicate_of}

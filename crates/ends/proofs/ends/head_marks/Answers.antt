@@ -1,12 +1,6 @@
 -- `head_marks` meets its contract: without a body the marks are those that call rows pass, else those past the last body atom. Assumes nothing.
-use Rattle.std.proofs.Common.{rules}
 use native.Mathlib.Omega.{arith}
-use borrow.Author.Rules.{rules}
-use Prim.Native.Nat.{ℕ}
-use mathlib.Core.Path.{ap, ◌∙◌}
-use lib.ListN.{length, length-replicate}
-use Rattle.rows.specs.MaskSet.{set_words}
-use Rattle.ends.proofs.ClauseRows.{clause_few, vars_few, no_body, some_body, end_after, last_asked, last_marked}
+use Rattle.ends.proofs.ClauseRows.{clause_few, no_body, some_body, last_asked, last_marked}
 use Rattle.ends.proofs.ends.head_marks.Goals as goal
 
 pub overflow_add-k : goal.overflow_add-k

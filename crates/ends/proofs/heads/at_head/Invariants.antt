@@ -1,14 +1,12 @@
 -- `at_head` meets its contract. The invariant: what the shapes before the link give is there, and the notes are of the head. The measure
 -- is how many shapes may be left. Assumes nothing.
-use native.Mathlib.Omega.{arith}
-use borrow.Author.Rules.{rules}
-use mathlib.Core.Path.{◌≡◌, refl, sym, ◌∙◌}
+use mathlib.Core.Path.{◌≡◌}
 use lib.ListN.{length}
 use Rattle.rows.specs.MaskSet.{set_words}
 use Rattle.steps.specs.Unifiers.{Notes}
 use Rattle.steps.proofs.ShapeLinks.{shapes_left}
 use Rattle.ends.specs.AtHead.{AtHead}
-use Rattle.ends.proofs.HeadShapes.{notes_there, clause_asked, start_in_words, Along, along_begins, along_there, along_falls, along_behind, along_shape, along_full, along_on, along_ends}
+use Rattle.ends.proofs.HeadShapes.{Along}
 use Rattle.ends.proofs.heads.at_head.Given as goal
 
 abbrev pub invariant-loop-link : goal.invariant-loop-link

@@ -1,12 +1,9 @@
 -- `at_shape` meets its contract: the new call rows open the body, where there is one, and then marks on the head go to the call rows. Assumes nothing.
-use Rattle.std.proofs.Common.{rules}
-use borrow.Author.Rules.{rules}
 use native.Mathlib.Omega.{arith}
-use mathlib.Core.Path.{sym, ◌∙◌}
-use mathlib.Core.Logic.{inr, ⊎_elim}
+use mathlib.Core.Logic.{inr}
 use Rattle.steps.proofs.Stepping.{stepped_within, stepped_past}
 use Rattle.ends.specs.AtHead.{AtShape}
-use Rattle.ends.proofs.AtShapes.{shape_in_dir, shape_variables_few, here_variables, emit_asked, Opened, opened_none, sets_asked, shape_step}
+use Rattle.ends.proofs.AtShapes.{shape_in_dir, here_variables, emit_asked, Opened, opened_none, sets_asked, shape_step}
 use Rattle.ends.proofs.heads.at_shape.Goals as goal
 use Rattle.ends.proofs.heads.at_shape.Goals.{then-first-end+else-room-rows, else-first-end}
 

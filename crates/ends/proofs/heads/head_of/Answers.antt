@@ -1,10 +1,8 @@
 -- `head_of` meets its contract: the directory says where the head and the first body atom stand. Assumes nothing.
-use Rattle.std.proofs.Common.{rules}
 use Prim.Native.Nat.{◌+◌}
 use native.Mathlib.Omega.{arith}
-use borrow.Author.Rules.{rules}
 use mathlib.Core.Path.{refl}
-use Rattle.calling.proofs.ShapeVisits.{clause_in_dir, clause_entry}
+use Rattle.calling.proofs.ShapeVisits.{clause_in_dir}
 use Rattle.ends.proofs.HeadAtoms.{first_there, first_few, first_run, first_atom, head_known}
 use Rattle.ends.proofs.heads.head_of.Goals as goal
 

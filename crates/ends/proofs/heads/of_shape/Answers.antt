@@ -1,7 +1,5 @@
 -- `of_shape` meets its contract: a shape without a call row to look at, or apart from the head, gives nothing; else its call rows are met. Assumes nothing.
-use Rattle.std.proofs.Common.{rules}
 use native.Mathlib.Omega.{arith}
-use borrow.Author.Rules.{rules}
 use borrow.Author.Tests.{not-true, not-false}
 use Rattle.ends.proofs.OneShape.{shape_few, shape_in_heads, shape_meets, shape_met, shape_empty, shape_apart}
 use Rattle.ends.proofs.heads.of_shape.Goals as goal

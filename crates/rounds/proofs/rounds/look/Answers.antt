@@ -1,7 +1,5 @@
 -- `look` meets its contract: a clause whose bit is not set gives nothing. Assumes nothing.
-use Rattle.std.proofs.Common.{rules}
 use native.Mathlib.Omega.{arith}
-use borrow.Author.Rules.{rules}
 use Rattle.steps.proofs.Stepping.{stepped_none}
 use Rattle.ends.proofs.ClauseRows.{clause_few}
 use Rattle.concerns.proofs.ActiveClauses.{not_looked}

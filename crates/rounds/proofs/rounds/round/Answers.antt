@@ -1,21 +1,10 @@
 -- `round` meets its contract: the clauses passed are dealt with. The measure is how many are left. Assumes nothing.
-use Rattle.std.proofs.Common.{rules}
-use Prim.Native.Nat.{◌-◌, ◌≤◌, ◌<◌}
+use Prim.Native.Nat.{◌<◌}
 use native.Mathlib.Omega.{arith}
-use mathlib.Core.Path.{◌≡◌, refl, sym, ◌∙◌}
+use mathlib.Core.Path.{refl, ◌∙◌}
 use mathlib.Core.Logic.{inr}
-use lib.ListN.{length, get_or}
-use Rattle.marks.specs.Modes.{modes}
-use Rattle.directory.specs.Layout.{clause_count}
-use Rattle.rows.specs.Rows.{keys_of}
-use Rattle.table.specs.Added.{Below}
-use Rattle.table.specs.NewRows.{NewIn}
-use Rattle.table.specs.RoundKeys.{Keyed}
+use lib.ListN.{length}
 use Rattle.steps.specs.Situation.{Situation}
-use Rattle.steps.specs.Steps.{Given, RowsIn, Grew}
-use Rattle.ends.specs.Ends.{Scratch}
-use Rattle.ends.specs.Keeping.{KeepsMarks}
-use Rattle.joining.specs.KeptAnswers.{KeepsAnswers}
 use Rattle.steps.proofs.Stepping.{stepped_within, stepped_past}
 use Rattle.steps.proofs.NotedUnifiers.{room_stays}
 use Rattle.rounds.proofs.RoundClauses.{clauses_begin, look_asked, clauses_next, clauses_end}

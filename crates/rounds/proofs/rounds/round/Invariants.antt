@@ -1,8 +1,6 @@
 -- `round` meets its contract: the clauses passed are dealt with. The measure is how many are left. Assumes nothing.
-use Prim.Native.Nat.{◌-◌, ◌≤◌, ◌<◌}
-use native.Mathlib.Omega.{arith}
-use mathlib.Core.Path.{◌≡◌, refl, sym, ◌∙◌}
-use mathlib.Core.Logic.{inr}
+use Prim.Native.Nat.{◌-◌, ◌≤◌}
+use mathlib.Core.Path.{◌≡◌}
 use lib.ListN.{length, get_or}
 use Rattle.marks.specs.Modes.{modes}
 use Rattle.directory.specs.Layout.{clause_count}
@@ -15,9 +13,6 @@ use Rattle.steps.specs.Steps.{Given, RowsIn, Grew}
 use Rattle.ends.specs.Ends.{Scratch}
 use Rattle.ends.specs.Keeping.{KeepsMarks}
 use Rattle.joining.specs.KeptAnswers.{KeepsAnswers}
-use Rattle.steps.proofs.Stepping.{stepped_within, stepped_past}
-use Rattle.steps.proofs.NotedUnifiers.{room_stays}
-use Rattle.rounds.proofs.RoundClauses.{clauses_begin, look_asked, clauses_next, clauses_end}
 use Rattle.rounds.proofs.rounds.round.Given as goal
 
 abbrev pub invariant-loop-k : goal.invariant-loop-k
