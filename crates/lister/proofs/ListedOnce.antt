@@ -2,7 +2,7 @@
 use Prim.Native.Nat.{ℕ, ◌≤◌, ◌<◌}
 use native.Mathlib.Omega.{arith}
 use native.Mathlib.Decide.{dec_le}
-use mathlib.Core.Path.{◌≡◌, refl, sym, ap, ◌∙◌}
+use mathlib.Core.Path.{ap₂, ◌≡◌, refl, sym, ap, ◌∙◌}
 use mathlib.Core.List.{List}
 use lib.ListN.{length, replicate}
 use Rattle.program.specs.Program.{Program}
@@ -42,7 +42,7 @@ module _ (words names : List ℕ) (size room : ℕ) where
       (same, one, (promise_unique words size _ _ _ _ a.analysed b.analysed).1)
 
   listing_once : {t t' : List ℕ} {p p' : Program} {es es' : List Entry} → Rows words names size t p es → Rows words names size t' p' es' → listing_of p names es ≡ listing_of p' names es'
-  listing_once a b = let (d, e, _) = rows_once a b in rw (d, e)
+  listing_once a b = let (d, e, _) = rows_once a b in ap₂ (λ (q : Program) (f : List Entry). listing_of q names f) d e
 
   over_or_listed : {t t' : List ℕ} {p p' : Program} {es es' : List Entry} → Rows words names size t p es → Rows words names size t' p' es'
       → room < length (listing_of p names es) → length (listing_of p' names es') ≤ room → ⊥
