@@ -1,9 +1,7 @@
 -- `lister::list::accepted` meets its contract: the table has room and is listed, or the refusal is the analysis'. Assumes nothing.
-use Rattle.std.proofs.Common.{rules}
 use mathlib.Core.Path.{sym}
 use Rattle.lister.specs.ListingPromise.{unlisted}
 use Rattle.lister.proofs.Replies.{analysis_refused, analysis_filled}
-use borrow.Author.Rules.{rules}
 use Rattle.lister.proofs.list.accepted.Goals as goal
 
 pub returns-then-analysed-ne-ACCEPTED : goal.returns-then-analysed-ne-ACCEPTED

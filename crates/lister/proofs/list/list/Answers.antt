@@ -1,10 +1,8 @@
 -- `lister::list::list` meets its contract: faults first, then the names, then the table and its listing. Assumes nothing.
-use Rattle.std.proofs.Common.{rules}
 use native.Mathlib.Omega.{arith}
 use Rattle.program.proofs.FaultNumbers.{accepted_sound}
 use Rattle.lister.specs.ListingPromise.{faulty, misnamed}
 use Rattle.lister.proofs.Replies.{scan_faulty, words_there, predicates_counted, functions_counted, symbols_few, names_replied, names_faulty, names_sound}
-use borrow.Author.Rules.{rules}
 use Rattle.lister.proofs.list.list.Goals as goal
 
 pub returns-then-scanned-ne-ACCEPTED : goal.returns-then-scanned-ne-ACCEPTED

@@ -1,5 +1,4 @@
 -- `lister::list::listed` meets its contract: the listing has room, or the refusal has zeros. Assumes nothing.
-use Rattle.std.proofs.Common.{rules}
 use Prim.Native.Nat.{◌≤◌}
 use native.Mathlib.Omega.{arith}
 use mathlib.Core.Path.{sym, ap, ◌∙◌}
@@ -8,7 +7,6 @@ use Rattle.program.specs.Reply.{done}
 use Rattle.text.proofs.Puts.{put_length, put_count, put_roomed, put_over}
 use Rattle.lister.specs.ListingPromise.{over, listed}
 use Rattle.lister.proofs.Replies.{listing_asked}
-use borrow.Author.Rules.{rules}
 use Rattle.lister.proofs.list.listed.Goals as goal
 
 pub listing-size-requires : goal.listing-size-requires

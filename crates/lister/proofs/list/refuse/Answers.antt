@@ -1,9 +1,7 @@
 -- `lister::list::refuse` meets its contract: both rooms are zeroed. Assumes nothing.
-use Rattle.std.proofs.Common.{rules}
 use lib.ListN.{length}
 use mathlib.Core.Path.{refl, ◌∙◌}
 use Rattle.text.proofs.Rooms.{in_room_empty}
-use borrow.Author.Rules.{rules}
 use Rattle.lister.proofs.list.refuse.Goals as goal
 
 pub returns : goal.returns

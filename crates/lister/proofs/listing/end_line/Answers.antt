@@ -1,9 +1,7 @@
 -- `lister::listing::end_line` meets its contract: the fields are written one behind another. Assumes nothing.
-use Rattle.std.proofs.Common.{rules}
 use mathlib.Core.List.{append-nil}
 use Rattle.text.specs.Decimal.{decimal}
 use Rattle.text.proofs.Puts.{put_append}
-use borrow.Author.Rules.{rules}
 use Rattle.lister.proofs.listing.end_line.Goals as goal
 
 pub returns : goal.returns

@@ -1,10 +1,8 @@
 -- `lister::listing::listing` meets its contract: the lines are written one behind another. Assumes nothing.
-use Rattle.std.proofs.Common.{rules}
 use native.Mathlib.Omega.{arith}
 use Rattle.text.proofs.Puts.{put_append, put_length}
 use Rattle.lister.proofs.Tails.{put_end, put_rest, tail_put, tail_end}
 use Rattle.lister.proofs.LineLaws.{spoken_of}
-use borrow.Author.Rules.{rules}
 use Rattle.lister.proofs.listing.listing.Goals as goal
 
 pub shape_lines-rows_at-requires : goal.shape_lines-rows_at-requires

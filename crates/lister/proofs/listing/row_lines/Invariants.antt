@@ -1,18 +1,9 @@
 -- `lister::listing::row_lines` meets its contract. The loop's invariant: the lines of the first r rows are written. Assumes nothing.
 use Prim.Native.Nat.{◌-◌, ◌≤◌}
-use native.Mathlib.Omega.{arith}
-use native.Mathlib.Numerals.{add-one}
-use mathlib.Core.Path.{subst}
-use mathlib.Core.List.{List}
 use lib.ListN.{take}
-use lib.Seq.{take_all}
-use Rattle.table.specs.Table.{Entry}
 use Rattle.text.specs.Put.{Put}
-use Rattle.text.proofs.Puts.{put_nothing, put_append, put_length}
 use Rattle.lister.specs.Listing.{row_lines}
 use Rattle.lister.specs.Asked.{Tabled}
-use Rattle.lister.proofs.Tails.{put_rest, tail_put, tail_end}
-use Rattle.lister.proofs.LineLaws.{rows_more, rows_rest, row_in, next_row}
 use Rattle.lister.proofs.listing.row_lines.Given as goal
 
 abbrev pub invariant-loop-r : goal.invariant-loop-r

@@ -1,18 +1,14 @@
 -- `lister::listing::shape_lines` meets its contract. The loop's invariant: the lines of the first s shapes are written. Assumes nothing.
-use Rattle.std.proofs.Common.{rules}
-use Prim.Native.Nat.{◌-◌, ◌≤◌}
 use native.Mathlib.Omega.{arith}
 use native.Mathlib.Numerals.{add-one}
 use mathlib.Core.Path.{subst}
 use mathlib.Core.List.{List}
-use lib.ListN.{length, take}
+use lib.ListN.{length}
 use lib.Seq.{take_all}
-use borrow.Author.Rules.{rules}
 use Rattle.terms.specs.Term.{Term}
 use Rattle.program.specs.Shapes.{shapes}
 use Rattle.text.specs.Put.{Put}
-use Rattle.text.proofs.Puts.{put_nothing, put_append, put_length}
-use Rattle.listing_lines.specs.Asked.{Spoken}
+use Rattle.text.proofs.Puts.{put_append, put_length}
 use Rattle.lister.specs.Listing.{shape_lines}
 use Rattle.lister.proofs.Tails.{put_rest, tail_put, tail_end}
 use Rattle.lister.proofs.LineLaws.{shapes_more, shapes_rest, next_shape}
