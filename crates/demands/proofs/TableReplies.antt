@@ -1,7 +1,7 @@
 -- Demand 1 of `analyse` and of `list`, from the laws on their promises: met, and by one reply alone.
 use Prim.Native.Nat.{ℕ, ◌+◌, ◌<◌}
 use native.Mathlib.Omega.{arith}
-use mathlib.Core.Path.{◌≡◌, refl, sym, ap, ◌∙◌, subst}
+use mathlib.Core.Path.{ap₂, ◌≡◌, refl, sym, ap, ◌∙◌, subst}
 use mathlib.Core.Logic.{◌⊎◌, inl, inr, ◌↔◌}
 use mathlib.Core.List.{List}
 use lib.ListN.{length, replicate}
@@ -77,7 +77,7 @@ module _ (words names : List ℕ) (size room : ℕ) where
       larger p' s (inr (es', h, more)) =
           let same = sound_same _ a.program s in
           let one = table_once p' es es' (rw same at a.rows) h in
-          let k : length (listing_of p names es) ≡ length (listing_of p' names es') = rw (same, one) in
+          let k : length (listing_of p names es) ≡ length (listing_of p' names es') = ap₂ (λ (q : Program) (f : List Entry). length (listing_of q names f)) same one in
           omega arith
 
   pub listing_replies : Replies (Lists words names size room) list_zeros (ListLarger words names size room)

@@ -62,6 +62,7 @@ any_row (solution s M) = solution s 0
 
 -- a row that stands in a table stands with no mark in the one where every mask is 0
 pub stands_any : (n : ℕ) (words : List ℕ) (row : Row ℕ) → StandsIn n words row → StandsIn n (changed round_of (λ row. 0) n words) (any_row row)
+stands_any zero words row x' = elim x' [ ]
 stands_any (suc n) words row (inl e) = inl (three words (row_words row) e ∙ unmarked row)
   where
     three : (words four : List ℕ) → take 4 (drop 1 words) ≡ four
