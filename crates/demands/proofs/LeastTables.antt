@@ -4,7 +4,7 @@ use native.Mathlib.Omega.{arith}
 use mathlib.Core.Path.{◌≡◌, refl, ap, subst}
 use mathlib.Core.Logic.{◌↔◌}
 use mathlib.Core.List.{List}
-use lib.ListN.{length, replicate}
+use lib.ListN.{replicate}
 use Rattle.program.specs.Faults.{Found, fault, sound}
 use Rattle.program.specs.Reply.{accepted, no_room, withdrawn}
 use Rattle.program.specs.declared.reply.Reply.{Reply}

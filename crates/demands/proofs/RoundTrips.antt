@@ -5,8 +5,6 @@ use mathlib.Core.List.{List}
 use lib.ListN.{length, take}
 use Rattle.program.specs.Reply.{accepted, done}
 use Rattle.program.specs.declared.reply.Reply.{Reply}
-use Rattle.reader.specs.Read as reads
-use Rattle.writer.specs.Write as writes
 use Rattle.round_trips.proofs.ReadWriteRooms.{read_write_rooms}
 use Rattle.round_trips.proofs.WriteReadRooms.{write_read_rooms}
 use Rattle.demands.specs.Promises.{Reads, words_read, names_read, Writes, text_written}

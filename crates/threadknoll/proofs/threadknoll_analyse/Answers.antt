@@ -1,7 +1,5 @@
 -- `threadknoll_analyse` meets its contract: what `analyse` promises of its reply holds of the one that C is told, since the two are the same.
 -- Assumes nothing.
-use Rattle.std.proofs.Common.{rules}
-use borrow.Author.Rules.{rules}
 use Rattle.threadknoll.proofs.threadknoll_analyse.Goals as goal
 
 pub returns : goal.returns

@@ -1,9 +1,7 @@
 -- `printing::print::print` meets its contract: the rooms lent to the reader are always enough, and what it leaves there is the text's program with its names. Assumes nothing.
-use Rattle.std.proofs.Common.{rules}
 use mathlib.Core.Path.{sym}
 use native.Mathlib.Omega.{arith}
 use lib.Seq.{length-take-le}
-use borrow.Author.Rules.{rules}
 use Rattle.printing.specs.Printed.{unread, read}
 use Rattle.printing.proofs.ReadRooms.{refused_unread, accepted_left}
 use Rattle.printing.proofs.print.print.Goals as goal

@@ -1,9 +1,7 @@
 -- `printing::print::print_listing` meets its contract: what the lister promises is shown, its listing or its refusal. Assumes nothing.
-use Rattle.std.proofs.Common.{rules}
 use Prim.Native.Nat.{ℕ}
 use Rattle.printing.specs.Printed.{table_room}
 use lib.ListN.{length-replicate}
-use borrow.Author.Rules.{rules}
 use Rattle.printing.proofs.Listings.{count_fits, listing_shown, refusal_shown}
 use Rattle.printing.proofs.print.print_listing.Goals as goal
 

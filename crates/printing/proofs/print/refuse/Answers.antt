@@ -1,6 +1,4 @@
 -- `printing::print::refuse` meets its contract: the five parts one behind another are the line, which has room. Assumes nothing.
-use Rattle.std.proofs.Common.{rules}
-use borrow.Author.Rules.{rules}
 use Rattle.printing.proofs.RefusedLines.{line_put}
 use Rattle.printing.proofs.print.refuse.Goals as goal
 
