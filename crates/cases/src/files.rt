@@ -1,5 +1,5 @@
 // Sample texts in the data folder, each by its name: NAME.in, and in NAME.out what is expected of it.
-ghost use Rattle.std.specs.Prelude.{IfOk};
+ghost use Rattle.std.specs.Prelude.{IfOk, OnErr, ◌≡◌, length};
 ghost use Rattle.intake.specs.Count.{IsPrefixLen};
 
 use intake::read_full;
@@ -23,7 +23,8 @@ fn open<R: Files>(rt: &R, name: &[u8], ending: &[u8]) -> Option<R::File> {
 
 // How many bytes were read; all that are lent where nothing is open.
 fn read_all<F: io::Read + Drop>(file: Option<F>, bytes: &mut [u8]) -> io::Result<usize>
-    ensures { IfOk result (λ n. IsPrefixLen n bytes.new) }
+    ensures ok { IfOk result (λ n. IsPrefixLen n bytes.new) }
+    ensures err { OnErr result (length bytes.new ≡ length bytes.old) }
 {
     let Some(mut file) = file else {
         return Ok(bytes.len());
@@ -45,7 +46,8 @@ fn load(
     ending: &[u8],
     bytes: &mut [u8],
 ) -> io::Result<usize>
-    ensures { IfOk result (λ n. IsPrefixLen n bytes.new) }
+    ensures ok { IfOk result (λ n. IsPrefixLen n bytes.new) }
+    ensures err { OnErr result (length bytes.new ≡ length bytes.old) }
 {
     let size = read_all(open(rt, name, ending), bytes)?;
     if size == bytes.len() {
@@ -55,13 +57,15 @@ fn load(
 }
 
 pub fn load_text(rt: &(impl Files + Print), name: &[u8], bytes: &mut [u8]) -> io::Result<usize>
-    ensures { IfOk result (λ n. IsPrefixLen n bytes.new) }
+    ensures ok { IfOk result (λ n. IsPrefixLen n bytes.new) }
+    ensures err { OnErr result (length bytes.new ≡ length bytes.old) }
 {
     load(rt, name, b".in", bytes)
 }
 
 pub fn load_expected(rt: &(impl Files + Print), name: &[u8], bytes: &mut [u8]) -> io::Result<usize>
-    ensures { IfOk result (λ n. IsPrefixLen n bytes.new) }
+    ensures ok { IfOk result (λ n. IsPrefixLen n bytes.new) }
+    ensures err { OnErr result (length bytes.new ≡ length bytes.old) }
 {
     load(rt, name, b".out", bytes)
 }

@@ -4,7 +4,7 @@
 pub mod fields;
 pub mod files;
 
-ghost use Rattle.std.specs.Prelude.{◌≤◌, min, ◌≡◌, false, length, IfOk};
+ghost use Rattle.std.specs.Prelude.{◌≤◌, min, ◌≡◌, false, length, IfOk, OnErr};
 
 use std::io;
 use std::io::Read;
@@ -116,7 +116,8 @@ pub fn start() -> Input
 // Reads on where all bytes of the buffer are read.
 fn filled<R: Read>(from: &mut R, buffer: &mut [u8], input: Input) -> io::Result<Input>
     requires { input.end ≤ length buffer.old }
-    ensures { IfOk result (λ now. now.end ≤ length buffer.old) }
+    ensures ok { IfOk result (λ now. now.end ≤ length buffer.old) }
+    ensures err { OnErr result (length buffer.new ≡ length buffer.old) }
 {
     if input.at < input.end {
         return Ok(input);
@@ -138,7 +139,8 @@ pub fn next<R: Read>(
     input: Input,
 ) -> io::Result<Input>
     requires { input.end ≤ length buffer.old }
-    ensures { IfOk result (λ now. (now.end ≤ length buffer.old) × (now.count ≤ length words.old)) }
+    ensures ok { IfOk result (λ now. (now.end ≤ length buffer.old) × (now.count ≤ length words.old)) }
+    ensures err { OnErr result ((length buffer.new ≡ length buffer.old) × (length words.new ≡ length words.old)) }
 {
     let mut now = input;
     let mut line = Line {
