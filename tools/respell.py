@@ -6,6 +6,7 @@ usage: python3 tools/respell.py [-n]        at the top of the repository, once, 
 A name is ours where a file of specs/ or of proofs/ declares it. A name that a file imports from a library keeps its spelling there. Functions, types
 and constants of src/, strings, inputs and outputs keep theirs: in .rt files only `ghost` lines, clauses and comments are turned, in .edit files the same.
 """
+import collections
 import glob
 import os
 import re
@@ -21,8 +22,8 @@ APART = {
 }
 WORD = re.compile(r"[^\s(){}\[\],;.:`\"]+")
 DECLARED = re.compile(
-    r"^(\s*)((?:(?:abbrev|unfoldable|pub|mutual|syntax|instance) +)*)(?:record |data )?"
-    r"([^\s(){}:\[\],;.]+)((?: *\{[^}]*\}| *\([^)]*\))*) *:(?!=)(\s|$)(.*)"
+    r"^\s*(?:(?:abbrev|unfoldable|pub|mutual|syntax|instance) +)*(?:record |data )?"
+    r"([^\s(){}:\[\],;.]+)(?: *\{[^}]*\}| *\([^)]*\))* *:(?!=)(?:\s|$)"
 )
 
 
@@ -31,16 +32,13 @@ def crates():
 
 
 def declared():
-    """Every name that a file of specs/ or proofs/ declares, with whether it makes a type."""
-    found = {}
+    """Every name that a file of specs/ or proofs/ declares."""
+    found = set()
     for path in sorted(glob.glob("crates/*/specs/*.antt") + glob.glob("crates/*/proofs/*.antt")):
         for line in open(path, encoding="utf-8"):
-            if line.lstrip().startswith("--"):
-                continue
             m = DECLARED.match(line.rstrip("\n"))
-            if m and re.search(r"[A-Za-z]", m.group(3)):
-                found[m.group(3)] = found.get(m.group(3), False) or bool(re.search(r"→ Type(?: \d|$)|^Type(?: \d|$)", m.group(6)))
-            # constructors and members that share a line with others
+            if m and not line.lstrip().startswith("--") and re.search(r"[A-Za-z]", m.group(1)):
+                found.add(m.group(1))
     return found
 
 
@@ -54,7 +52,7 @@ def camel(name):
     return "".join(p[:1].upper() + p[1:] for p in name.replace("-", "_").split("_"))
 
 
-def turned(name, is_type):
+def turned(name):
     if name[0].isupper():
         return camel(name) if "-" in name or "_" in name else name
     if "-" in name or (re.match(r"[a-z_+◌]", name) and re.search(r"[A-Z]", name)):
@@ -121,8 +119,8 @@ def main(argv):
     ours = set(crates())
     found = declared()
     names, taken = {}, {}
-    for name, is_type in sorted(found.items()):
-        new = turned(name, is_type)
+    for name in sorted(found):
+        new = turned(name)
         if new != name:
             names[name] = new
         taken.setdefault(new, set()).add(name)
@@ -136,7 +134,7 @@ def main(argv):
                 names[o] = new + "_law"
     for old, new in APART.items():
         names[old] = new
-    for new, n in sorted(__import__("collections").Counter([names.get(f, f) for f in found]).items()):
+    for new, n in sorted(collections.Counter(names.get(f, f) for f in found).items()):
         if n > 1:
             print(f"look: {n} names are {new} now")
     # mixfix names: the word between the holes
@@ -164,7 +162,7 @@ def main(argv):
         text = open(path, encoding="utf-8").read()
         new = turn(text, names, ours)
         if new != text:
-            before = {w for w in WORD.findall(text)}
+            before = set(WORD.findall(text))
             for a, b in names.items():
                 if a in before and b in before and path.endswith((".antt", ".rt")):
                     print(f"look: {path}: {a} is now {b}, which it has already")
