@@ -55,7 +55,7 @@ fn first(text: &str) -> (Kind, usize) {
     if text.starts_with("::") {
         return (Kind::Sign, 2);
     }
-    let known = "{}()[]<>#&|^!=+-*/%.,:;".contains(sign) && !text.starts_with("/*");
+    let known = "{}()[]<>#&|^!=+-*/%.,:;?@".contains(sign) && !text.starts_with("/*");
     (if known { Kind::Sign } else { Kind::Other }, sign.len_utf8())
 }
 

@@ -1,4 +1,4 @@
-//! A Rattle text as Rust: contracts, `ghost use` and what is said to the check left out, paths between crates led through one module. Lines keep their numbers.
+//! A Rattle text as Rust: contracts, ghost items and what is said to the check left out, paths between crates led through one module. Lines keep their numbers.
 //!
 //! Whatever stands outside contracts and has no form that is known here is refused, and what this lets pass is then held against Rust's own rules.
 
@@ -83,12 +83,23 @@ impl Translator<'_> {
         Ok(())
     }
 
-    /// `ghost use PATH;`, which names definitions for contracts.
+    /// `ghost use PATH;`, which names definitions for contracts, or a ghost field or member: `ghost NAME: { .. },` or `ghost NAME = { .. };`.
     fn ghost(&mut self) -> Result<(), String> {
-        if self.ahead(1) != "use" {
-            return Err(self.fault("`ghost` with no `use`"));
+        if self.ahead(1) == "use" {
+            return self.leave_out_through(";");
         }
-        self.leave_out_through(";")
+        if !matches!(self.ahead(2), ":" | "=") || self.ahead(3) != "{" {
+            return Err(self.fault("`ghost` with no `use` and no fact"));
+        }
+        self.leave_out_through("{")?;
+        self.leave_out_braces()?;
+        match self.ahead(0) {
+            last @ ("," | ";") => {
+                let last = last.to_string();
+                self.leave_out_through(&last)
+            }
+            other => Err(self.fault(&format!("`{other}` behind a ghost item"))),
+        }
     }
 
     /// `requires { .. }`, `ensures { .. }` or `ensures NAME { .. }`, between a function's head and its body.
@@ -98,20 +109,26 @@ impl Translator<'_> {
             return Err(self.fault("a contract with no braces"));
         }
         self.leave_out_through("{")?;
+        self.leave_out_braces()?;
+        match self.ahead(0) {
+            "{" | "requires" | "ensures" => Ok(()),
+            other => Err(self.fault(&format!("`{other}` behind a contract"))),
+        }
+    }
+
+    /// What stands up to the brace that closes the one before, and that brace.
+    fn leave_out_braces(&mut self) -> Result<(), String> {
         let mut open = 1;
         while open > 0 {
             match self.tokens.get(self.at).map(|token| token.text) {
-                None => return Err(self.fault("a contract that is not closed")),
+                None => return Err(self.fault("a fact that is not closed")),
                 Some("{") => open += 1,
                 Some("}") => open -= 1,
                 Some(_) => {}
             }
             self.leave_out();
         }
-        match self.ahead(0) {
-            "{" | "requires" | "ensures" => Ok(()),
-            other => Err(self.fault(&format!("`{other}` behind a contract"))),
-        }
+        Ok(())
     }
 
     /// `#![tactic(auto)]` and `#[cycle(NAME)]` are said to the check alone; `Drop` is no derive of Rust. No other attribute is known.
@@ -228,12 +245,20 @@ mod tests {
     }
 
     #[test]
+    fn ghost_fields_and_members_are_left_out() {
+        is("struct S {\n    n: usize,\n    ghost small: { n ≤ 9 },\n}", "struct S {\n    n: usize,\n    \n}");
+        is("impl A {\n    ghost gives = { λ x. {y : Z} → x };\n\n    fn f() {}\n}", "impl A {\n    \n\n    fn f() {}\n}");
+    }
+
+    #[test]
     fn what_is_not_known_is_refused() {
         is_refused("fn f()\n{\n λ }", "line 3: `λ` outside a contract");
         is_refused("fn f()\n    requires { { }\n{\n}", "not closed");
         is_refused("fn f()\n    ensures { a } }\n{\n}", "`}` behind a contract");
         is_refused("fn f() requires x;", "no braces");
         is_refused("ghost fn f();", "no `use`");
+        is_refused("ghost a = { b }\nfn f() {}", "behind a ghost item");
+        is_refused("ghost a = { b", "not closed");
         is_refused("ghost use a", "no `;`");
         is_refused("#[inline]\nfn f() {}", "an attribute");
         is_refused("pub extern \"C\" fn f() {}", "`extern`");

@@ -1,4 +1,4 @@
--- The replies of the analysis: what the scan's reply says, the directory, the room, and zeros behind the rows.
+-- The replies of the analysis: the fault that the scan finds, the directory, the room, and zeros behind the rows.
 use Prim.Native.Nat.{ℕ, ◌-◌, ◌*◌, ◌/◌, ◌≤◌, ◌<◌}
 use native.Mathlib.Omega.{arith}
 use native.Mathlib.Nat.{min-le_left, min-le_right, le_refl}
@@ -9,10 +9,12 @@ use lib.ListN.{length, take, replicate, drop_of_length-le}
 use lib.Seq.{take_at}
 use borrow.Rule.Slice.PartMut.{put_mid, mid_of, post_of, Post-is, mid_len}
 use Rattle.program.specs.Program.{Program}
-use Rattle.program.specs.Faults.{Found, fault, sound, faults, reply_of}
-use Rattle.program.specs.Reply.{done}
-use Rattle.program.specs.declared.reply.Reply.{Reply}
+use Rattle.program.specs.Faults.{sound, faults, reply_of}
+use Rattle.program.specs.Reply.{done, replied, scanned}
+use Rattle.program.specs.declared.reply.Fault.{Fault}
+use Rattle.program.proofs.Checks.{checked_fault}
 use Rattle.program.specs.Limits.{row_size}
+use Rattle.std.proofs.Common.{Err}
 use Rattle.directory.specs.Directory.{Directory}
 use Rattle.table.specs.Promise.{faulty, listed}
 use Rattle.table.specs.Table.{room_in, MoreThan, Promise}
@@ -24,14 +26,9 @@ use Rattle.analysis.specs.Finished.{InTable}
 pub room_fits : (size : ℕ) → (room_in size ≤ 4096) × (row_size * room_in size ≤ size)
 room_fits size = let l = min-le_left (size / row_size) 4096 in (min-le_right (size / row_size) 4096, omega arith)
 
-module _ (words : List ℕ) (r : Reply) (is : r ≡ reply_of (faults words)) where
-  -- "Every refusal zeroes all lent output."
-  pub refused_faulty : (size : ℕ) (table : List ℕ) → (r.number ≡ 0 → ⊥) → table ≡ replicate size 0 → Promise words size r table
-  refused_faulty size table nz zeros = at (faults words) refl
-    where
-      at : (f : Found Program) → faults words ≡ f → Promise words size r table
-      at (fault number place) e = faulty number place e (is ∙ ap reply_of e) zeros
-      at (sound p) e = absurd (nz (ap (λ (x : Reply). x.number) (is ∙ ap reply_of e)))
+-- "Every refusal zeroes all lent output."
+pub refused_faulty : (words : List ℕ) (f : Fault) → scanned (Err f) ≡ reply_of (faults words) → (size : ℕ) (table : List ℕ) → table ≡ replicate size 0 → Promise words size (replied (Err f)) table
+refused_faulty words f is size table zeros = faulty _ _ (checked_fault words f is) refl zeros
 
 -- an accepted program with the directory that is made of it
 pub setting_of : {words dir : List ℕ} {p : Program} → faults words ≡ sound p → ((q : Program) → faults words ≡ sound q → Directory words q dir) → Setting words dir p
@@ -60,6 +57,6 @@ within_complete p room n table (inr (e, m)) h = absurd (omega arith)
 
 -- "Accepted is number 0 with place 0", "a count of what was written"
 pub table_listed : (words : List ℕ) (p : Program) → faults words ≡ sound p → (size rows : ℕ) (table : List ℕ) → rows ≤ room_in size → InTable p rows size table
-    → Promise words size (record { number = 0; place = 0; count = rows }) table
+    → Promise words size (done rows) table
 table_listed words p accepted size rows table l t =
     listed p t.entries accepted t.table_of (rw t.many l) (ap done (sym t.many)) (rw t.many t.words)

@@ -30,15 +30,15 @@ module _ {words dir : List ℕ} {p : Program} (s : Setting words dir p) (table :
   as_solution _ (regular_cont hc hA w l) slot m e f h = absurd (omega (arith, bodies_below s hc hA))
   as_solution _ (regular_solution {s = n} hs w l) slot m e f h = let d : slot - first_solution ≡ n = omega arith in rw (d, f) refl
 
-  pub as_cont : (row : Row ℕ) → Regular p row → (slot m k i : ℕ) → slot ≡ slot_of p row → m ≡ mask row → first_cont ≤ slot → slot < first_solution
-      → ((b : BodyOf p (slot - first_cont)) → (k ≡ b.k) × (i ≡ b.i)) → with_words table r 2 (k + 1) (i + 1) m ≡ with_row table r row
-  as_cont _ (regular_call hs w l) slot m k i e f h h' found = absurd (omega (arith, shapes_below s hs))
-  as_cont _ (regular_cont {k = k'} {i = i'} {c = c} {A = A} hc hA w l) slot m k i e f h h' found =
+  pub as_cont : (row : Row ℕ) → Regular p row → (slot m j k i : ℕ) → slot ≡ slot_of p row → m ≡ mask row → first_cont ≤ slot → slot < first_solution → j ≡ slot - first_cont
+      → ((b : BodyOf p j) → (k ≡ b.k) × (i ≡ b.i)) → with_words table r 2 (k + 1) (i + 1) m ≡ with_row table r row
+  as_cont _ (regular_call hs w l) slot m j k i e f h h' body found = absurd (omega (arith, shapes_below s hs))
+  as_cont _ (regular_cont {k = k'} {i = i'} {c = c} {A = A} hc hA w l) slot m j k i e f h h' body found =
       let (d, d') = found (record { k = k'; i = i'; c = c; A = A; nth_clause = hc; nth_atom = hA; is = omega arith }) in
       let a : k + 1 ≡ suc k' = omega arith in
       let b : i + 1 ≡ suc i' = omega arith in
       rw (a, b, f) refl
-  as_cont _ (regular_solution hs w l) slot m k i e f h h' found = absurd (omega arith)
+  as_cont _ (regular_solution hs w l) slot m j k i e f h h' body found = absurd (omega arith)
 
 -- writing behind a list
 set_behind : (P Q : List ℕ) (j v : ℕ) → set (P ++ Q) (length P + j) v ≡ P ++ set Q j v

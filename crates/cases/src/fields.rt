@@ -3,7 +3,6 @@ ghost use Rattle.std.specs.Prelude.{◌≡◌, cond, ◌≤◌, IfOk};
 
 use crate::{print, print_words};
 use std::io;
-use terms::walk::wide;
 use text::cut::TAB;
 use text::name::NAME_BYTES;
 
@@ -19,7 +18,7 @@ pub fn print_field(rt: &impl Print, n: usize) -> io::Result<()> {
 
 pub fn print_refused(rt: &impl Print, number: u16, place: usize) -> io::Result<()> {
     rt.write_all(b"\trefused")?;
-    print_field(rt, wide(number))?;
+    print_field(rt, usize::from(number))?;
     print_field(rt, place)
 }
 

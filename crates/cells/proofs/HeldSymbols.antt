@@ -15,15 +15,15 @@ use Rattle.program.specs.Reply.{undeclared, out_of_range, long_atom}
 use Rattle.text.specs.Room.{in_room}
 use Rattle.text.specs.Name.{name_bytes, max_names, entry, padded, same, seek}
 use Rattle.text.specs.Token.{token_of}
+use Rattle.std.specs.Prelude.{Option, Some, None}
 use Rattle.text.specs.declared.token.Token.{Token}
-use Rattle.text.specs.declared.token.Token.TheVariants.{Wrong, Name, Variable}
+use Rattle.text.specs.declared.token.Token.TheVariants.{Name, Variable}
 use Rattle.text.proofs.Rooms.{drop_in_room, take_in_room, get_d_in_room, set_behind}
-use Rattle.cells.specs.declared.look.Look.{Look}
-use Rattle.cells.specs.declared.look.Look.TheVariants.{Fault, Symbol}
 use Rattle.cells.specs.declared.state.Counts.{Counts}
 use Rattle.cells.specs.declared.state.Progress.{Progress}
-use Rattle.cells.specs.Cells.{symbol_at, named_of, variable_at, start_of, argument_of, look_of}
-use Rattle.cells.specs.Room.{SymbolsHeld, Roomy, symbols_in, row_of}
+use Rattle.cells.specs.declared.state.SymbolRoom.{SymbolRoom}
+use Rattle.cells.specs.Cells.{symbol_at, named_of, variable_at, start_of, argument_of, look_of, Look, fault, symbol}
+use Rattle.cells.specs.Room.{SymbolsHeld, Few, symbols_in, row_of}
 
 -- a name that is there stands in the room as it was put
 pub entry_kept : (room : ℕ) (ns : List ℕ) (k : ℕ) → k * name_bytes + name_bytes ≤ length ns → length ns ≤ room → entry (in_room room ns) k ≡ entry ns k
@@ -39,8 +39,8 @@ seek_alike a b key i (suc n) h =
 symbol_at_alike : (a b : List ℕ) (from to n : ℕ) → ((k : ℕ) → k < to → get_or a k 0 ≡ get_or b k 0) → symbol_at a from to n ≡ symbol_at b from to n
 symbol_at_alike a b from to n h = go (ltb n to) refl
   where
-    go : (t : Bool) → ltb n to ≡ t → cond t (Symbol (n - from) (get_or a n 0)) (Fault undeclared) ≡ cond t (Symbol (n - from) (get_or b n 0)) (Fault undeclared)
-    go true e = ap (Symbol (n - from)) (h n (ltb-true n to e))
+    go : (t : Bool) → ltb n to ≡ t → cond t (symbol (n - from) (get_or a n 0)) (fault undeclared) ≡ cond t (symbol (n - from) (get_or b n 0)) (fault undeclared)
+    go true e = ap (symbol (n - from)) (h n (ltb-true n to e))
     go false e = refl
 
 variable_at_alike : (seen : ℕ) (ms : List ℕ) (v : ℕ) (g : Bool) → variable_at seen (in_room variables ms) v g ≡ variable_at seen ms v g
@@ -58,35 +58,35 @@ named_of_alike a a' b b' from to s h names arities =
     ∙ symbol_at_alike b b' from to (seek a' (padded s) from (to - from)) arities
 
 -- a look at a token through the room is a look at it through the declared symbols and the line
-module _ (ns ws : List ℕ) (c : Counts) (names hashes arities : List ℕ) (room : Roomy c names hashes arities)
-    (kept : SymbolsHeld ns ws c names hashes arities) where
-  pub entries : (k : ℕ) → k < c.predicates + c.functions → entry names k ≡ entry ns k
+module _ (ns ws : List ℕ) (c : Counts) (symbols : SymbolRoom) (room : Few c)
+    (kept : SymbolsHeld ns ws c symbols) where
+  pub entries : (k : ℕ) → k < c.predicates + c.functions → entry symbols.names k ≡ entry ns k
   entries k h =
       ap (λ (l : List ℕ). entry l k) kept.named
       ∙ entry_kept (max_names * name_bytes) ns k (omega (arith, kept.sized)) (omega (arith, kept.sized, room.few_predicates, room.few_functions))
 
   pub look_of_kept : (query : Bool) (p : Progress) (ms out s : List ℕ)
-      → look_of (symbols_in c names arities) query (row_of p (in_room variables ms) []) s ≡ look_of (symbols_in c ns ws) query (row_of p ms out) s
+      → look_of (symbols_in c symbols.names symbols.arities) query (row_of p (in_room variables ms) []) s ≡ look_of (symbols_in c ns ws) query (row_of p ms out) s
   look_of_kept query p ms out s = go (eqb p.wanted 0) (token_of query s)
     where
-      go : (t : Bool) (k : Token)
-          → cond t (start_of (symbols_in c names arities) p.atoms s k) (argument_of (symbols_in c names arities) (row_of p (in_room variables ms) []) s k)
+      go : (t : Bool) (k : Option Token)
+          → cond t (start_of (symbols_in c symbols.names symbols.arities) p.atoms s k) (argument_of (symbols_in c symbols.names symbols.arities) (row_of p (in_room variables ms) []) s k)
           ≡ cond t (start_of (symbols_in c ns ws) p.atoms s k) (argument_of (symbols_in c ns ws) (row_of p ms out) s k)
-      go true Wrong = refl
-      go true Name =
-          ap (cond (ltb max_body p.atoms) (Fault out_of_range))
-          (named_of_alike names ns arities ws 0 c.predicates s (omega arith) (λ k h. entries k (omega arith)) (λ k h. kept.arity k (omega arith)))
-      go true (Variable g v) = refl
-      go false Wrong = refl
-      go false Name =
-          ap (cond (leb atom_cells p.cells) (Fault long_atom))
-          (named_of_alike names ns arities ws c.predicates (c.predicates + c.functions) s (omega arith) entries kept.arity)
-      go false (Variable g v) = ap (cond (leb atom_cells p.cells) (Fault long_atom)) (variable_at_alike p.variables ms v g)
+      go true None = refl
+      go true (Some Name) =
+          ap (cond (ltb max_body p.atoms) (fault out_of_range))
+          (named_of_alike symbols.names ns symbols.arities ws 0 c.predicates s (omega arith) (λ k h. entries k (omega arith)) (λ k h. kept.arity k (omega arith)))
+      go true (Some (Variable g v)) = refl
+      go false None = refl
+      go false (Some Name) =
+          ap (cond (leb atom_cells p.cells) (fault long_atom))
+          (named_of_alike symbols.names ns symbols.arities ws c.predicates (c.predicates + c.functions) s (omega arith) entries kept.arity)
+      go false (Some (Variable g v)) = ap (cond (leb atom_cells p.cells) (fault long_atom)) (variable_at_alike p.variables ms v g)
 
   -- the same, where the line stands in the room
   pub look_of_stands : (query : Bool) (p : Progress) (ms out modes s : List ℕ) (l : Look) → modes ≡ in_room variables ms
-      → l ≡ look_of (symbols_in c names arities) query (row_of p modes []) s → look_of (symbols_in c ns ws) query (row_of p ms out) s ≡ l
-  look_of_stands query p ms out modes s l e f = sym (f ∙ ap (λ (m : List ℕ). look_of (symbols_in c names arities) query (row_of p m []) s) e ∙ look_of_kept query p ms out s)
+      → l ≡ look_of (symbols_in c symbols.names symbols.arities) query (row_of p modes []) s → look_of (symbols_in c ns ws) query (row_of p ms out) s ≡ l
+  look_of_stands query p ms out modes s l e f = sym (f ∙ ap (λ (m : List ℕ). look_of (symbols_in c symbols.names symbols.arities) query (row_of p m []) s) e ∙ look_of_kept query p ms out s)
 
 -- one more byte of a list behind another list
 pub byte_behind : (room : ℕ) (ns key names : List ℕ) (at i : ℕ) → i < length key → at ≡ length ns → names ≡ in_room room (ns ++ take i key)

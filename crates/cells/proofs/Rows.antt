@@ -5,25 +5,23 @@ use mathlib.Core.Bool.{Bool, true, false, cond, ◌&&◌}
 use mathlib.Core.List.{List, [], append-nil}
 use native.Mathlib.Omega.{arith}
 use lib.ListN.{length, drop}
-use lib.Dec.{eqb, ltb}
-use borrow.Author.Tests.{le-ltb, ltb-true}
+use borrow.Author.Tests.{le-ltb}
 use Rattle.terms.specs.Cells.{variables}
 use Rattle.program.specs.Limits.{max_words}
-use Rattle.program.specs.Reply.{too_soon, follows}
+use Rattle.program.specs.Reply.{too_soon, follows, number_of}
+use Rattle.program.specs.declared.reply.Refusal.{Refusal}
 use Rattle.program.specs.Lists.{between}
 use Rattle.text.specs.Room.{in_room}
 use Rattle.text.specs.Line.{up_to, behind, tab}
 use Rattle.cells.proofs.FieldCuts.{field_within, field_length, behind_next}
-use Rattle.cells.specs.declared.look.Look.{Look}
-use Rattle.cells.specs.declared.look.Look.TheVariants.{Fault, Symbol, Variable as Met}
 use Rattle.cells.specs.declared.state.Progress.{Progress}
-use Rattle.cells.specs.declared.cells.Taken.TheVariants.{Fault as TakenFault, Next}
+use Rattle.cells.specs.declared.state.SymbolRoom.{SymbolRoom}
+use Rattle.std.specs.Prelude.{Ok, Err}
 use Rattle.cells.specs.Symbols.{Symbols}
 use Rattle.cells.specs.TextSoFar.{Read, wrong, right, next}
 use Rattle.cells.specs.declared.state.Counts.{Counts}
-use Rattle.cells.specs.Cells.{Row, no_cells, look_of, taken_at, with_symbol, with_variable, complete, cells_of}
+use Rattle.cells.specs.Cells.{Row, no_cells, look_of, taken_at, with_symbol, with_variable, complete, cells_of, Look, fault, symbol, met}
 use Rattle.cells.specs.Room.{Stands, Small, SymbolsHeld, TakenAs, CellsAs, symbols_in, row_of}
-use Rattle.cells.specs.declared.cells.Cells.TheVariants.{Fault as CellsFault, Done}
 
 -- a line that goes on, as it stands in the room
 pub record GoesOn (r : Row) (l : Look) (q : Progress) (front modes words : List ℕ) : Type 0 where
@@ -34,13 +32,14 @@ pub record GoesOn (r : Row) (l : Look) (q : Progress) (front modes words : List 
 
 module _ (front modes words : List ℕ) where
   -- a token that is a fault is one at its place
-  pub taken_wrong : (r : Row) (l : Look) (n place : ℕ) → TakenAs front modes words (TakenFault n) (taken_at r 0 l) → taken_at r place l ≡ wrong n place
-  taken_wrong r (Fault m) n place e = let same : n ≡ m = cc in ap (λ (k : ℕ). wrong k place) (sym same)
-  taken_wrong r (Symbol w a) n place e = absurd (let f = e.1 in let z : ◌≡◌ {A = ℕ} 0 1 = cc in omega arith)
-  taken_wrong r (Met v g) n place e = absurd (let f = e.1 in let z : ◌≡◌ {A = ℕ} 0 1 = cc in omega arith)
+  pub taken_wrong : (r : Row) (l : Look) (refusal : Refusal) (place : ℕ) → TakenAs front modes words (Err refusal) (taken_at r 0 l)
+      → taken_at r place l ≡ wrong (number_of refusal) place
+  taken_wrong r (fault m) refusal place e = ap (λ (k : ℕ). wrong k place) (sym e)
+  taken_wrong r (symbol w a) refusal place e = absurd (let f = e.1 in let z : ◌≡◌ {A = ℕ} 0 1 = cc in omega arith)
+  taken_wrong r (met v g) refusal place e = absurd (let f = e.1 in let z : ◌≡◌ {A = ℕ} 0 1 = cc in omega arith)
 
   goes_on : (r row : Row) (l : Look) (q : Progress) → ((place : ℕ) → taken_at r place l ≡ right row)
-      → TakenAs front modes words (Next q) (right row) → GoesOn r l q front modes words
+      → TakenAs front modes words (Ok q) (right row) → GoesOn r l q front modes words
   goes_on r row l q on e =
       let f = e.1 in
       let same : q ≡ e.0 = cc in
@@ -51,10 +50,10 @@ module _ (front modes words : List ℕ) where
         stands = rw same e.3;
       }
 
-  pub taken_next : (r : Row) (l : Look) (q : Progress) → TakenAs front modes words (Next q) (taken_at r 0 l) → GoesOn r l q front modes words
-  taken_next r (Fault m) q e = absurd (let z : ◌≡◌ {A = ℕ} 0 1 = cc in omega arith)
-  taken_next r (Symbol w a) q e = goes_on r (with_symbol r w a) (Symbol w a) q (λ place. refl) e
-  taken_next r (Met v g) q e = goes_on r (with_variable r v g) (Met v g) q (λ place. refl) e
+  pub taken_next : (r : Row) (l : Look) (q : Progress) → TakenAs front modes words (Ok q) (taken_at r 0 l) → GoesOn r l q front modes words
+  taken_next r (fault m) q e = absurd e
+  taken_next r (symbol w a) q e = goes_on r (with_symbol r w a) (symbol w a) q (λ place. refl) e
+  taken_next r (met v g) q e = goes_on r (with_variable r v g) (met v g) q (λ place. refl) e
 
 -- one turn: the separator stands at `at`, and the token behind it ends at e
 module _ (t : Symbols) (query : Bool) (line : List ℕ) (base at e : ℕ) (h : at < length line)
@@ -104,7 +103,7 @@ pub record Said (t : Symbols) (query : Bool) (line : List ℕ) (from base : ℕ)
 pub said_on : (t : Symbols) (query : Bool) (line : List ℕ) {from : ℕ} (base : ℕ) (front words modes : List ℕ) {words₀ modes₀ : List ℕ} {p : Progress} (q : Progress)
     (at e : ℕ) → at < length line → e ≡ at + 1 + length (up_to tab (drop (at + 1) line))
     → (s : Said t query line from base front words₀ modes₀ p at) → query && complete (row_of p s.ms s.out) ≡ false
-    → TakenAs front modes words (Next q) (taken_at (row_of p s.ms s.out) 0 (look_of t query (row_of p s.ms s.out) (between line (at + 1) e)))
+    → TakenAs front modes words (Ok q) (taken_at (row_of p s.ms s.out) 0 (look_of t query (row_of p s.ms s.out) (between line (at + 1) e)))
     → Said t query line from base front words modes q e
 said_on t query line base front words modes {p = p} q at e h ends s o taken =
     let r = row_of p s.ms s.out in
@@ -112,15 +111,14 @@ said_on t query line base front words modes {p = p} q at e h ends s o taken =
     record { ms = g.ms; out = g.out; stands = g.stands; rest = s.rest ∙ rest_on t query line base at e h ends r o g }
 
 -- what holds whenever the loop's test is reached
-pub record Turning (line : List ℕ) (from base : ℕ) (query : Bool) (c : Counts) (names hashes arities words₀ modes₀ : List ℕ) (count : ℕ)
+pub record Turning (line : List ℕ) (from base : ℕ) (query : Bool) (c : Counts) (symbols : SymbolRoom) (words₀ modes₀ : List ℕ) (count : ℕ)
     (words modes : List ℕ) (p : Progress) (at : ℕ) : Type 0 where
   pub past : from ≤ at
   pub within : at ≤ length line
   pub small : Small p
   pub slow : p.words + from ≤ count + at
   pub word_length : length words ≡ length words₀
-  pub mode_length : length modes ≡ length modes₀
-  pub says : (ns ws front : List ℕ) → SymbolsHeld ns ws c names hashes arities → words₀ ≡ in_room max_words front → count ≡ length front
+  pub says : (ns ws front : List ℕ) → SymbolsHeld ns ws c symbols → words₀ ≡ in_room max_words front → count ≡ length front
       → modes₀ ≡ in_room variables [] → Said (symbols_in c ns ws) query line from base front words modes p at
 
 -- before the first token
@@ -145,16 +143,8 @@ begins t query line from base front words modes count w n m =
 
 -- the answer of the line, by what its cells come to
 module _ (front modes words : List ℕ) where
-  pub as_wrong : {n place : ℕ} (o : Read Row) → o ≡ wrong n place → CellsAs front modes words (CellsFault n place) o
-  as_wrong o e = rw e
+  pub as_wrong : (refusal : Refusal) (place : ℕ) (o : Read Row) → o ≡ wrong (number_of refusal) place → CellsAs front modes words (Err (record { refusal = refusal; place = place })) o
+  as_wrong refusal place o e = rw e refl
 
-  pub as_right : {p : Progress} {ms out : List ℕ} (o : Read Row) → o ≡ right (row_of p ms out) → Stands p ms out front modes words → CellsAs front modes words (Done p) o
+  pub as_right : {p : Progress} {ms out : List ℕ} (o : Read Row) → o ≡ right (row_of p ms out) → Stands p ms out front modes words → CellsAs front modes words (Ok p) o
   as_right {p = p} o e st = rw e (p, refl, refl, st)
-
--- a complete atom is an atom
-pub complete_atoms : (p : Progress) → complete (row_of p [] []) ≡ true → 0 < p.atoms
-complete_atoms p e = go (eqb p.wanted 0) e
-  where
-    go : (t : Bool) → t && ltb 0 p.atoms ≡ true → 0 < p.atoms
-    go true e = ltb-true 0 p.atoms e
-    go false e = absurd (let z : ◌≡◌ {A = ℕ} 0 1 = cc in omega arith)

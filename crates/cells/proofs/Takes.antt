@@ -9,31 +9,30 @@ use lib.Dec.{eqb, ltb, leb}
 use borrow.Author.Tests.{ltb-false}
 use Rattle.terms.specs.Cells.{variables, atom_cells, first_variable}
 use Rattle.program.specs.Limits.{max_body, max_variable, max_words}
-use Rattle.program.specs.Reply.{undeclared, out_of_range, long_atom, bad_variable, both_modes}
+use Rattle.program.specs.Reply.{undeclared, out_of_range, long_atom, bad_variable, both_modes, number_of}
+use Rattle.program.specs.declared.reply.Refusal.{Refusal}
 use Rattle.text.specs.Room.{in_room}
 use Rattle.text.specs.Token.{token_of}
+use Rattle.std.specs.Prelude.{Option, Some, None, Ok, Err}
 use Rattle.text.specs.declared.token.Token.{Token}
-use Rattle.text.specs.declared.token.Token.TheVariants.{Wrong, Name, Variable}
+use Rattle.text.specs.declared.token.Token.TheVariants.{Name, Variable}
 use Rattle.text.proofs.Rooms.{set_behind}
-use Rattle.cells.specs.declared.look.Look.{Look}
-use Rattle.cells.specs.declared.look.Look.TheVariants.{Fault, Symbol, Variable as Met}
 use Rattle.cells.specs.declared.state.Progress.{Progress}
 use Rattle.cells.specs.Symbols.{Symbols}
 use Rattle.cells.specs.TextSoFar.{Read}
-use Rattle.cells.specs.Cells.{Row, mode_of, symbol_at, named_of, variable_at, start_of, argument_of, look_of, taken_at}
+use Rattle.cells.specs.Cells.{Row, mode_of, symbol_at, named_of, variable_at, start_of, argument_of, look_of, taken_at, Look, fault, symbol, met}
 use Rattle.cells.specs.Room.{Stands, TakenAs, row_of, after_symbol, after_variable}
-use Rattle.cells.specs.declared.cells.Taken.TheVariants.{Fault as TakenFault, Next}
 
 -- what is known of a look, by its answer
 abbrev LookWell : Row → Look → Type 0
-LookWell r (Fault number) = Unit {0}
-LookWell r (Symbol word arity) = eqb r.wanted 0 ≡ true → r.atoms ≤ max_body
-LookWell r (Met v g) = (v ≤ max_variable) × (v ≤ r.variables)
+LookWell r (fault number) = Unit {0}
+LookWell r (symbol word arity) = eqb r.wanted 0 ≡ true → r.atoms ≤ max_body
+LookWell r (met v g) = (v ≤ max_variable) × (v ≤ r.variables)
 
 symbol_at_well : (r : Row) (arities : List ℕ) (from to n : ℕ) → r.atoms ≤ max_body → LookWell r (symbol_at arities from to n)
 symbol_at_well r arities from to n h = go (ltb n to)
   where
-    go : (t : Bool) → LookWell r (cond t (Symbol (n - from) (get_or arities n 0)) (Fault undeclared))
+    go : (t : Bool) → LookWell r (cond t (symbol (n - from) (get_or arities n 0)) (fault undeclared))
     go true = λ e. h
     go false = tt
 
@@ -41,7 +40,7 @@ variable_at_well : (r : Row) (v : ℕ) (g : Bool) → LookWell r (variable_at r.
 variable_at_well r v g = go (ltb max_variable v) refl (ltb r.variables v) refl (ltb v r.variables) (eqb (get_or r.modes v 0) (mode_of g))
   where
     go : (t : Bool) → ltb max_variable v ≡ t → (u : Bool) → ltb r.variables v ≡ u → (w x : Bool)
-        → LookWell r (cond t (Fault bad_variable) (cond u (Fault bad_variable) (cond w (cond x (Met v g) (Fault both_modes)) (Met v g))))
+        → LookWell r (cond t (fault bad_variable) (cond u (fault bad_variable) (cond w (cond x (met v g) (fault both_modes)) (met v g))))
     go true e u f w x = tt
     go false e true f w x = tt
     go false e false f true true = (ltb-false max_variable v e, ltb-false r.variables v f)
@@ -52,34 +51,34 @@ variable_at_well r v g = go (ltb max_variable v) refl (ltb r.variables v) refl (
 pub look_well : (t : Symbols) (query : Bool) (r : Row) (s : List ℕ) → LookWell r (look_of t query r s)
 look_well t query r s = go (eqb r.wanted 0) refl (token_of query s)
   where
-    start : (u : Bool) → ltb max_body r.atoms ≡ u → LookWell r (cond u (Fault out_of_range) (named_of t.names t.arities 0 t.predicates s))
+    start : (u : Bool) → ltb max_body r.atoms ≡ u → LookWell r (cond u (fault out_of_range) (named_of t.names t.arities 0 t.predicates s))
     start true e = tt
     start false e = symbol_at_well r t.arities 0 t.predicates _ (ltb-false max_body r.atoms e)
 
     argument : eqb r.wanted 0 ≡ false → (arities : List ℕ) (from to n : ℕ) → LookWell r (symbol_at arities from to n)
     argument e arities from to n = go (ltb n to)
       where
-        go : (t : Bool) → LookWell r (cond t (Symbol (n - from) (get_or arities n 0)) (Fault undeclared))
+        go : (t : Bool) → LookWell r (cond t (symbol (n - from) (get_or arities n 0)) (fault undeclared))
         go true = λ f. absurd (let z : ◌≡◌ {A = ℕ} 0 1 = cc in omega arith)
         go false = tt
 
-    go : (u : Bool) → eqb r.wanted 0 ≡ u → (k : Token) → LookWell r (cond u (start_of t r.atoms s k) (argument_of t r s k))
-    go true e Wrong = tt
-    go true e Name = start (ltb max_body r.atoms) refl
-    go true e (Variable g v) = variable (ltb max_body r.atoms)
+    go : (u : Bool) → eqb r.wanted 0 ≡ u → (k : Option Token) → LookWell r (cond u (start_of t r.atoms s k) (argument_of t r s k))
+    go true e None = tt
+    go true e (Some Name) = start (ltb max_body r.atoms) refl
+    go true e (Some (Variable g v)) = variable (ltb max_body r.atoms)
       where
-        variable : (u : Bool) → LookWell r (cond u (Fault out_of_range) (Fault undeclared))
+        variable : (u : Bool) → LookWell r (cond u (fault out_of_range) (fault undeclared))
         variable true = tt
         variable false = tt
-    go false e Wrong = tt
-    go false e Name = cells (leb atom_cells r.cells)
+    go false e None = tt
+    go false e (Some Name) = cells (leb atom_cells r.cells)
       where
-        cells : (u : Bool) → LookWell r (cond u (Fault long_atom) (named_of t.names t.arities t.predicates (t.predicates + t.functions) s))
+        cells : (u : Bool) → LookWell r (cond u (fault long_atom) (named_of t.names t.arities t.predicates (t.predicates + t.functions) s))
         cells true = tt
         cells false = argument e t.arities t.predicates (t.predicates + t.functions) _
-    go false e (Variable g v) = cells (leb atom_cells r.cells)
+    go false e (Some (Variable g v)) = cells (leb atom_cells r.cells)
       where
-        cells : (u : Bool) → LookWell r (cond u (Fault long_atom) (variable_at r.variables r.modes v g))
+        cells : (u : Bool) → LookWell r (cond u (fault long_atom) (variable_at r.variables r.modes v g))
         cells true = tt
         cells false = variable_at_well r v g
 
@@ -142,16 +141,16 @@ module _ (t : Symbols) (query : Bool) (s : List ℕ) {p : Progress} {ms out fron
   well : {l : Look} → look_of t query (row_of p ms out) s ≡ l → LookWell (row_of p ms out) l
   well e = rw e at (look_well t query (row_of p ms out) s)
 
-  pub taken_fault : (n : ℕ) → look_of t query (row_of p ms out) s ≡ Fault n → TakenAs front modes words (TakenFault n) its
-  taken_fault n e = rw e
+  pub taken_fault : (refusal : Refusal) → look_of t query (row_of p ms out) s ≡ fault (number_of refusal) → TakenAs front modes words (Err refusal) its
+  taken_fault refusal e = rw e refl
 
-  pub taken_symbol : (w a : ℕ) (q : Progress) (words' : List ℕ) → look_of t query (row_of p ms out) s ≡ Symbol w a
-      → q ≡ after_symbol p a → words' ≡ set words p.words w → TakenAs front modes words' (Next q) its
+  pub taken_symbol : (w a : ℕ) (q : Progress) (words' : List ℕ) → look_of t query (row_of p ms out) s ≡ symbol w a
+      → q ≡ after_symbol p a → words' ≡ set words p.words w → TakenAs front modes words' (Ok q) its
   taken_symbol w a q words' e f g = rw (e, f, g) (after_symbol p a, refl, refl, stands_symbol st w a (well e))
 
-  pub taken_variable : (v : ℕ) (g : Bool) (q : Progress) (cell : ℕ) (modes' words' : List ℕ) → look_of t query (row_of p ms out) s ≡ Met v g
+  pub taken_variable : (v : ℕ) (g : Bool) (q : Progress) (cell : ℕ) (modes' words' : List ℕ) → look_of t query (row_of p ms out) s ≡ met v g
       → q ≡ after_variable p v → (v ≤ max_variable → cell ≡ first_variable + v) → words' ≡ set words p.words cell
-      → modes' ≡ cond (ltb v p.variables) modes (set modes p.variables (mode_of g)) → TakenAs front modes' words' (Next q) its
+      → modes' ≡ cond (ltb v p.variables) modes (set modes p.variables (mode_of g)) → TakenAs front modes' words' (Ok q) its
   taken_variable v g q cell modes' words' e f h k m =
       let w = well e in
       rw (e, f, m, k ∙ ap (set words p.words) (h w.0))

@@ -1,14 +1,12 @@
 -- The cells of a clause or query line: "A clause or query line has one token a cell."
-use Rattle.std.specs.Prelude.{ℕ, ◌+◌, ◌-◌, Bool, true, false, cond, ◌&&◌, List, [], ◌∷◌, ◌++◌, length, get_or, eqb, ltb, leb}
+use Rattle.std.specs.Prelude.{ℕ, ◌+◌, ◌-◌, Bool, true, false, cond, ◌&&◌, Option, Some, None, List, [], ◌∷◌, ◌++◌, length, get_or, eqb, ltb, leb}
 use Rattle.terms.specs.Cells.{first_variable, atom_cells}
 use Rattle.program.specs.Limits.{max_body, max_variable, any_mode, ground_mode}
 use Rattle.program.specs.Reply.{too_soon, out_of_range, undeclared, bad_variable, long_atom, follows, ill_formed, both_modes}
 use Rattle.text.specs.Token.{token_of}
 use Rattle.text.specs.Name.{padded, seek}
 use Rattle.text.specs.declared.token.Token.{Token}
-use Rattle.text.specs.declared.token.Token.TheVariants.{Wrong, Name, Variable}
-use Rattle.cells.specs.declared.look.Look.{Look}
-use Rattle.cells.specs.declared.look.Look.TheVariants.{Fault, Symbol, Variable as Met}
+use Rattle.text.specs.declared.token.Token.TheVariants.{Name, Variable}
 use Rattle.cells.specs.Symbols.{Symbols}
 use Rattle.cells.specs.TextSoFar.{Read, wrong, right, next}
 
@@ -32,9 +30,15 @@ abbrev pub mode_of : Bool → ℕ
 mode_of true = ground_mode
 mode_of false = any_mode
 
+-- what a token is at its place: a fault by its number; a symbol's cell, and how many arguments it wants; or a variable by its number, and whether it is ground
+pub data Look : Type 0 where
+  fault : ℕ → Look
+  symbol : ℕ → ℕ → Look
+  met : ℕ → Bool → Look
+
 -- a symbol by its number among those from `from` to below `to`, and its arity; "the symbol is not declared"
 abbrev pub symbol_at : List ℕ → ℕ → ℕ → ℕ → Look
-symbol_at arities from to n = cond (ltb n to) (Symbol (n - from) (get_or arities n 0)) (Fault undeclared)
+symbol_at arities from to n = cond (ltb n to) (symbol (n - from) (get_or arities n 0)) (fault undeclared)
 
 abbrev pub named_of : List ℕ → List ℕ → ℕ → ℕ → List ℕ → Look
 named_of names arities from to s = symbol_at arities from to (seek names (padded s) from (to - from))
@@ -42,26 +46,26 @@ named_of names arities from to s = symbol_at arities from to (seek names (padded
 -- "a variable is above 15 or skips a number"; "a query variable is both `V` and `G`"
 abbrev pub variable_at : ℕ → List ℕ → ℕ → Bool → Look
 variable_at seen modes v grounded =
-    cond (ltb max_variable v) (Fault bad_variable)
-    (cond (ltb seen v) (Fault bad_variable)
+    cond (ltb max_variable v) (fault bad_variable)
+    (cond (ltb seen v) (fault bad_variable)
     (cond (ltb v seen)
-    (cond (eqb (get_or modes v 0) (mode_of grounded)) (Met v grounded) (Fault both_modes))
-    (Met v grounded)))
+    (cond (eqb (get_or modes v 0) (mode_of grounded)) (met v grounded) (fault both_modes))
+    (met v grounded)))
 
 -- the first cell of an atom: a head and 16 body atoms at most; "an atom starts with no predicate"
-abbrev pub start_of : Symbols → ℕ → List ℕ → Token → Look
-start_of symbols atoms s Wrong = Fault ill_formed
-start_of symbols atoms s Name =
-    cond (ltb max_body atoms) (Fault out_of_range) (named_of symbols.names symbols.arities 0 symbols.predicates s)
-start_of symbols atoms s (Variable grounded v) = cond (ltb max_body atoms) (Fault out_of_range) (Fault undeclared)
+abbrev pub start_of : Symbols → ℕ → List ℕ → Option Token → Look
+start_of symbols atoms s None = fault ill_formed
+start_of symbols atoms s (Some Name) =
+    cond (ltb max_body atoms) (fault out_of_range) (named_of symbols.names symbols.arities 0 symbols.predicates s)
+start_of symbols atoms s (Some (Variable grounded v)) = cond (ltb max_body atoms) (fault out_of_range) (fault undeclared)
 
 -- a cell of an argument; "an atom reaches a 33rd cell"
-abbrev pub argument_of : Symbols → Row → List ℕ → Token → Look
-argument_of symbols r s Wrong = Fault ill_formed
-argument_of symbols r s Name =
-    cond (leb atom_cells r.cells) (Fault long_atom)
+abbrev pub argument_of : Symbols → Row → List ℕ → Option Token → Look
+argument_of symbols r s None = fault ill_formed
+argument_of symbols r s (Some Name) =
+    cond (leb atom_cells r.cells) (fault long_atom)
     (named_of symbols.names symbols.arities symbols.predicates (symbols.predicates + symbols.functions) s)
-argument_of symbols r s (Variable grounded v) = cond (leb atom_cells r.cells) (Fault long_atom) (variable_at r.variables r.modes v grounded)
+argument_of symbols r s (Some (Variable grounded v)) = cond (leb atom_cells r.cells) (fault long_atom) (variable_at r.variables r.modes v grounded)
 
 -- "At one place the order is 1, 11, 2, 5, 3, 4, 13."
 abbrev pub look_of : Symbols → Bool → Row → List ℕ → Look
@@ -92,9 +96,9 @@ with_variable r v grounded =
     }
 
 abbrev pub taken_at : Row → ℕ → Look → Read Row
-taken_at r at (Fault number) = wrong number at
-taken_at r at (Symbol word arity) = right (with_symbol r word arity)
-taken_at r at (Met v grounded) = right (with_variable r v grounded)
+taken_at r at (fault number) = wrong number at
+taken_at r at (symbol word arity) = right (with_symbol r word arity)
+taken_at r at (met v grounded) = right (with_variable r v grounded)
 
 -- an atom is complete, and no other has begun
 abbrev pub complete : Row → Bool

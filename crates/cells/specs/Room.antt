@@ -1,18 +1,20 @@
 -- What the code's numbers and the lists in its room say together: the declared symbols, a line, and when a step of the code is right.
-use Rattle.std.specs.Prelude.{ℕ, ◌+◌, ◌-◌, ◌*◌, ◌≤◌, ◌<◌, ◌≡◌, cond, List, ◌++◌, length, get_or, eqb, ltb}
+use Rattle.std.specs.Prelude.{ℕ, ◌+◌, ◌-◌, ◌*◌, ◌≤◌, ◌<◌, ◌≡◌, cond, List, ◌++◌, length, get_or, eqb, ltb, Result, Ok, Err, IsErrAnd}
 use Rattle.terms.specs.Cells.{variables}
 use Rattle.program.specs.Limits.{max_declared, max_words, max_body}
+use Rattle.program.specs.Reply.{number_of}
+use Rattle.program.specs.declared.reply.Refusal.{Refusal}
+use Rattle.program.specs.declared.reply.Fault.{Fault}
 use Rattle.text.specs.Name.{name_bytes, max_names, Hashed}
 use Rattle.text.specs.Room.{in_room}
 use Rattle.cells.specs.Symbols.{Symbols}
-use Rattle.cells.specs.TextSoFar.{Read, wrong, right}
-use Rattle.cells.specs.Cells.{Row}
+use Rattle.cells.specs.TextSoFar.{Read, wrong, right, reading_of}
+use Rattle.cells.specs.Cells.{Row, Look, fault, symbol, met}
 use Rattle.cells.specs.declared.state.Counts.{Counts}
 use Rattle.cells.specs.declared.state.Progress.{Progress}
-use Rattle.cells.specs.declared.cells.Taken.{Taken}
-use Rattle.cells.specs.declared.cells.Taken.TheVariants.{Fault as TakenFault, Next}
-use Rattle.cells.specs.declared.cells.Cells.{Cells}
-use Rattle.cells.specs.declared.cells.Cells.TheVariants.{Fault as CellsFault, Done}
+use Rattle.cells.specs.declared.state.SymbolRoom.{SymbolRoom}
+use Rattle.cells.specs.declared.look.Seen.{Seen}
+use Rattle.cells.specs.declared.look.Seen.TheVariants.{Symbol, Variable}
 
 abbrev pub symbols_in : Counts → List ℕ → List ℕ → Symbols
 symbols_in c names arities = record { predicates = c.predicates; functions = c.functions; names = names; arities = arities }
@@ -21,20 +23,23 @@ abbrev pub row_of : Progress → List ℕ → List ℕ → Row
 row_of p modes out =
     record { wanted = p.wanted; cells = p.cells; atoms = p.atoms; variables = p.variables; modes = modes; out = out }
 
--- the room that the reader works in: of names, their hashes, their arities
-pub record Roomy (c : Counts) (names hashes arities : List ℕ) : Type 0 where
+-- the look that the code's answer for a token is
+abbrev pub look_in : Result Seen Refusal → Look
+look_in (Err refusal) = fault (number_of refusal)
+look_in (Ok (Symbol word arity)) = symbol word arity
+look_in (Ok (Variable number grounded)) = met number grounded
+
+-- few symbols of each kind
+pub record Few (c : Counts) : Type 0 where
   pub few_predicates : c.predicates ≤ max_declared
   pub few_functions : c.functions ≤ max_declared
-  pub name_room : length names ≡ max_names * name_bytes
-  pub hash_room : length hashes ≡ max_names
-  pub arity_room : length arities ≡ max_names
 
 -- the names ns and the arities ws stand in the room
-pub record SymbolsHeld (ns ws : List ℕ) (c : Counts) (names hashes arities : List ℕ) : Type 0 where
-  pub named : names ≡ in_room (max_names * name_bytes) ns
+pub record SymbolsHeld (ns ws : List ℕ) (c : Counts) (symbols : SymbolRoom) : Type 0 where
+  pub named : symbols.names ≡ in_room (max_names * name_bytes) ns
   pub sized : length ns ≡ (c.predicates + c.functions) * name_bytes
-  pub arity : (n : ℕ) → n < c.predicates + c.functions → get_or arities n 0 ≡ get_or ws n 0
-  pub hashed : Hashed names hashes 0 (c.predicates + c.functions)
+  pub arity : (n : ℕ) → n < c.predicates + c.functions → get_or symbols.arities n 0 ≡ get_or ws n 0
+  pub hashed : Hashed symbols.names symbols.hashes 0 (c.predicates + c.functions)
 
 abbrev pub after_symbol : Progress → ℕ → Progress
 after_symbol p arity =
@@ -64,14 +69,14 @@ pub record Small (p : Progress) : Type 0 where
   pub variables : p.variables ≤ p.words
 
 -- one word more, in the answer for a token
-abbrev pub Grows : Progress → Taken → Type 0
-Grows p (TakenFault number) = Unit {0}
-Grows p (Next q) = Small q × (q.words ≡ p.words + 1)
+abbrev pub Grows : Progress → Result Progress Refusal → Type 0
+Grows p (Err _) = Unit {0}
+Grows p (Ok q) = Small q × (q.words ≡ p.words + 1)
 
 -- no more words than so many, and an atom at least, in the answer for a line
-abbrev pub Grown : ℕ → Cells → Type 0
-Grown most (CellsFault number place) = Unit {0}
-Grown most (Done q) = (q.words ≤ most) × (0 < q.atoms) × (q.atoms ≤ q.words) × (q.variables ≤ q.words)
+abbrev pub Grown : ℕ → Result Progress Fault → Type 0
+Grown most (Err _) = Unit {0}
+Grown most (Ok q) = (q.words ≤ most) × (0 < q.atoms) × (q.atoms ≤ q.words) × (q.variables ≤ q.words)
 
 -- the line that stands in the room behind the words of `front`
 pub record Stands (p : Progress) (ms out front modes words : List ℕ) : Type 0 where
@@ -83,13 +88,13 @@ pub record Stands (p : Progress) (ms out front modes words : List ℕ) : Type 0 
   pub place : p.words ≡ length (front ++ out)
 
 -- a cell was taken as it should be
-abbrev pub TakenAs : List ℕ → List ℕ → List ℕ → Taken → Read Row → Type 0
-TakenAs front modes words r (wrong number place) = r ≡ TakenFault number
+abbrev pub TakenAs : List ℕ → List ℕ → List ℕ → Result Progress Refusal → Read Row → Type 0
+TakenAs front modes words r (wrong number place) = IsErrAnd r (λ refusal. number_of refusal ≡ number)
 TakenAs front modes words r (right row) =
-    (p : Progress) × (r ≡ Next p) × (row ≡ row_of p row.modes row.out) × Stands p row.modes row.out front modes words
+    (p : Progress) × (r ≡ Ok p) × (row ≡ row_of p row.modes row.out) × Stands p row.modes row.out front modes words
 
 -- the cells of a line were read as they should be
-abbrev pub CellsAs : List ℕ → List ℕ → List ℕ → Cells → Read Row → Type 0
-CellsAs front modes words r (wrong number place) = r ≡ CellsFault number place
+abbrev pub CellsAs : List ℕ → List ℕ → List ℕ → Result Progress Fault → Read Row → Type 0
+CellsAs front modes words r (wrong number place) = reading_of r ≡ wrong number place
 CellsAs front modes words r (right row) =
-    (p : Progress) × (r ≡ Done p) × (row ≡ row_of p row.modes row.out) × Stands p row.modes row.out front modes words
+    (p : Progress) × (r ≡ Ok p) × (row ≡ row_of p row.modes row.out) × Stands p row.modes row.out front modes words

@@ -1,11 +1,18 @@
 -- What was read of a text: so far, by a line, and all of it.
-use Rattle.std.specs.Prelude.{ℕ, suc, ◌+◌, List, [], ◌∷◌, ◌++◌, get_or, set, drop}
+use Rattle.std.specs.Prelude.{ℕ, suc, ◌+◌, Result, Ok, Err, List, [], ◌∷◌, ◌++◌, get_or, set, drop}
+use Rattle.program.specs.Reply.{number_of}
+use Rattle.program.specs.declared.reply.Fault.{Fault}
 use Rattle.cells.specs.Symbols.{Symbols}
 
 -- a part of the text: a fault's number and place, or what was read
 pub data Read (A : Type 0) : Type 0 where
   wrong : ℕ → ℕ → Read A
   right : A → Read A
+
+-- what the code's answer for a part says
+abbrev pub reading_of : {A : Type 0} → Result A Fault → Read A
+reading_of (Err fault) = wrong (number_of fault.refusal) fault.place
+reading_of (Ok a) = right a
 
 -- one part, and then what follows it; the first fault decides
 abbrev pub next : {A B : Type 0} → Read A → (A → Read B) → Read B

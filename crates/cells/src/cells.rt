@@ -5,33 +5,21 @@ ghost use Rattle.program.specs.Limits.{max_words, max_variable};
 ghost use Rattle.text.specs.Line.{behind, tab};
 ghost use Rattle.text.specs.Room.{in_room};
 ghost use Rattle.cells.specs.Cells.{mode_of, look_of, taken_at, no_cells, cells_of, complete};
-ghost use Rattle.cells.specs.Room.{Roomy, SymbolsHeld, Small, Grows, Grown, Stands, TakenAs, CellsAs, symbols_in, row_of, after_symbol, after_variable};
+ghost use Rattle.cells.specs.Room.{Few, SymbolsHeld, Small, Grows, Grown, Stands, TakenAs, CellsAs, symbols_in, row_of, after_symbol, after_variable};
 
-use crate::look::{Look, look_at, mode_of};
-use crate::state::{Counts, Progress};
+use crate::look::{Seen, look_at, mode_of};
+use crate::state::{Counts, Line, Progress, SymbolRoom};
 use program::limits::MAX_VARIABLE;
-use program::reply::{FOLLOWS, TOO_SOON};
+use program::reply::{Fault, Refusal};
 use terms::walk::FIRST_VARIABLE;
 use text::cut::{TAB, find};
 
-#[derive(Drop)]
-pub enum Taken {
-    Fault(u16),
-    Next(Progress),
-}
-
-#[derive(Drop)]
-pub enum Cells {
-    Fault { number: u16, place: usize },
-    Done(Progress),
-}
-
-// A word where there is room for it.
-pub fn put(words: &mut [u16], at: usize, x: u16)
-    ensures { words.new ≡ set words.old at x }
+// An element where there is room for it.
+pub fn put<T: Copy>(items: &mut [T], at: usize, x: T)
+    ensures { items.new ≡ set items.old at x }
 {
-    if at < words.len() {
-        words[at] = x;
+    if at < items.len() {
+        items[at] = x;
     }
 }
 
@@ -39,33 +27,23 @@ fn after_symbol(p: Progress, arity: u16) -> Progress
     requires { Small p × (p.words < 2 ^ 32) }
     ensures { (result ≡ after_symbol p arity) × Small result }
 {
-    let more = arity as usize;
+    let more = usize::from(arity);
     let words = p.words + 1;
     if p.wanted == 0 {
         return Progress {
             wanted: more,
             cells: 1,
             atoms: p.atoms + 1,
-            variables: p.variables,
             words,
+            ..p
         };
     }
     Progress {
         wanted: p.wanted - 1 + more,
         cells: p.cells + 1,
-        atoms: p.atoms,
-        variables: p.variables,
         words,
+        ..p
     }
-}
-
-fn one_less(n: usize) -> usize
-    ensures { result ≡ n - 1 }
-{
-    if 0 < n {
-        return n - 1;
-    }
-    0
 }
 
 fn met_after(seen: usize, v: usize) -> usize
@@ -83,11 +61,11 @@ fn after_variable(p: Progress, v: usize) -> Progress
     ensures { (result ≡ after_variable p v) × Small result }
 {
     Progress {
-        wanted: one_less(p.wanted),
+        wanted: p.wanted.saturating_sub(1),
         cells: p.cells + 1,
-        atoms: p.atoms,
         variables: met_after(p.variables, v),
         words: p.words + 1,
+        ..p
     }
 }
 
@@ -116,26 +94,23 @@ fn take(
     query: bool,
     p: Progress,
     c: Counts,
-    names: &[u8],
-    hashes: &[u32],
-    arities: &[u16],
+    symbols: &SymbolRoom,
     words: &mut [u16],
-    modes: &mut [u16],
-) -> Taken
-    requires { Roomy c names.now hashes.now arities.now × (length modes.old ≡ variables) × Small p × (p.words < 2 ^ 32) }
-    ensures taken_as { (ns ws ms out front : List ℕ) → SymbolsHeld ns ws c names.now hashes.now arities.now → Stands p ms out front modes.old words.old → TakenAs front modes.new words.new result (taken_at (row_of p ms out) 0 (look_of (symbols_in c ns ws) query (row_of p ms out) s.now)) }
+    modes: &mut [u16; 16],
+) -> Result<Progress, Refusal>
+    requires { Few c × Small p × (p.words < 2 ^ 32) }
+    ensures taken_as { (ns ws ms out front : List ℕ) → SymbolsHeld ns ws c symbols.now → Stands p ms out front modes.old words.old → TakenAs front modes.new words.new result (taken_at (row_of p ms out) 0 (look_of (symbols_in c ns ws) query (row_of p ms out) s.now)) }
     ensures grows { Grows p result }
 {
-    match look_at(s, query, p, c, names, hashes, arities, modes) {
-        Look::Fault(number) => Taken::Fault(number),
-        Look::Symbol { word, arity } => {
+    match look_at(s, query, p, c, symbols, modes)? {
+        Seen::Symbol { word, arity } => {
             put(words, p.words, word);
-            Taken::Next(after_symbol(p, arity))
+            Ok(after_symbol(p, arity))
         }
-        Look::Variable { number, grounded } => {
+        Seen::Variable { number, grounded } => {
             put(words, p.words, variable_cell(number));
             meet(modes, p.variables, number, grounded);
-            Taken::Next(after_variable(p, number))
+            Ok(after_variable(p, number))
         }
     }
 }
@@ -144,39 +119,30 @@ fn take(
 fn is_complete(p: Progress) -> bool
     ensures { result ≡ complete (row_of p [] []) }
 {
-    if p.wanted != 0 {
-        return false;
-    }
-    0 < p.atoms
+    p.wanted == 0 && 0 < p.atoms
 }
 
 // "After the goal's last cell stands one LF"
 fn is_over(query: bool, p: Progress) -> bool
     ensures { result ≡ query && complete (row_of p [] []) }
 {
-    if query {
-        return is_complete(p);
-    }
-    false
+    query && is_complete(p)
 }
 
-// The tokens of a line behind the separator at `from`; the line begins at `base` of the text.
+// The tokens of a line behind the separator at `from`.
 pub fn read_cells(
-    line: &[u8],
+    line: &Line<'_>,
     from: usize,
-    base: usize,
     query: bool,
     c: Counts,
-    names: &[u8],
-    hashes: &[u32],
-    arities: &[u16],
+    symbols: &SymbolRoom,
     words: &mut [u16],
-    modes: &mut [u16],
+    modes: &mut [u16; 16],
     count: usize,
-) -> Cells
-    requires { Roomy c names.now hashes.now arities.now × (length modes.old ≡ variables) × (from ≤ length line.now) × (base + length line.now < 2 ^ 31) × (count < 2 ^ 31) }
-    ensures by_index { (ns ws front : List ℕ) → SymbolsHeld ns ws c names.now hashes.now arities.now → words.old ≡ in_room max_words front → count ≡ length front → modes.old ≡ in_room variables [] → CellsAs front modes.new words.new result (cells_of (symbols_in c ns ws) query no_cells (base + from) (behind tab line.now from)) }
-    ensures grows { Grown (count + length line.now) result }
+) -> Result<Progress, Fault>
+    requires { Few c × (from ≤ length line.now.bytes.now) × (count < 2 ^ 31) }
+    ensures by_index { (ns ws front : List ℕ) → SymbolsHeld ns ws c symbols.now → words.old ≡ in_room max_words front → count ≡ length front → modes.old ≡ in_room variables [] → CellsAs front modes.new words.new result (cells_of (symbols_in c ns ws) query no_cells (line.now.place + from) (behind tab line.now.bytes.now from)) }
+    ensures grows { Grown (count + length line.now.bytes.now) result }
 {
     let mut p = Progress {
         wanted: 0,
@@ -186,43 +152,27 @@ pub fn read_cells(
         words: count,
     };
     let mut at = from;
-    while at < line.len() {
+    // Not an iterator over the tokens: a fault names a place of the line, and a token that `split` hands out has none.
+    while at < line.bytes.len() {
         if is_over(query, p) {
-            return Cells::Fault {
-                number: FOLLOWS,
-                place: base + at,
-            };
+            return Err(Fault {
+                refusal: Refusal::Follows,
+                place: line.place + at,
+            });
         }
         let start = at + 1;
-        let end = find(line, start, TAB);
-        match take(
-            &line[start..end],
-            query,
-            p,
-            c,
-            names,
-            hashes,
-            arities,
-            words,
-            modes,
-        ) {
-            Taken::Fault(number) => {
-                return Cells::Fault {
-                    number,
-                    place: base + start,
-                };
-            }
-            Taken::Next(next) => {
-                p = next;
-                at = end;
-            }
-        }
+        let place = line.place + start;
+        let end = find(line.bytes, start, TAB);
+        p = take(&line.bytes[start..end], query, p, c, symbols, words, modes).map_err(
+            |refusal| Fault { refusal, place },
+        )?;
+        at = end;
     }
     if is_complete(p) {
-        return Cells::Done(p);
+        return Ok(p);
     }
-    Cells::Fault {
-        number: TOO_SOON,
-        place: base + at,
-    }
+    Err(Fault {
+        refusal: Refusal::TooSoon,
+        place: line.place + at,
+    })
 }

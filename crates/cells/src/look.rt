@@ -1,19 +1,18 @@
 // What a token is at its place in a line.
-ghost use Rattle.std.specs.Prelude.{◌≡◌, ◌+◌, ◌*◌, ◌≤◌, ◌<◌, length, []};
-ghost use Rattle.text.specs.Name.{Hashed, max_names, name_bytes};
+ghost use Rattle.std.specs.Prelude.{◌≡◌, ◌+◌, ◌≤◌, ◌<◌, length, [], Some};
+ghost use Rattle.text.specs.Name.{Hashed, max_names};
 ghost use Rattle.cells.specs.Cells.{mode_of, symbol_at, variable_at, named_of, start_of, argument_of, look_of};
-ghost use Rattle.cells.specs.Room.{Roomy, symbols_in, row_of};
+ghost use Rattle.cells.specs.Room.{Few, symbols_in, row_of, look_in};
 
-use crate::state::{Counts, Progress};
+use crate::state::{Counts, Progress, SymbolRoom};
 use program::limits::{ATOM_CELLS, MAX_BODY, MAX_VARIABLE};
-use program::reply::{BAD_VARIABLE, BOTH_MODES, ILL_FORMED, LONG_ATOM, OUT_OF_RANGE, UNDECLARED};
+use program::reply::Refusal;
 use text::name::{find_name, pad};
 use text::token::{Token, token_of};
 
-#[derive(Drop)]
-pub enum Look {
-    // the fault's number
-    Fault(u16),
+// What is seen where a token is sound.
+#[derive(Clone, Copy)]
+pub enum Seen {
     // a symbol's cell, and how many arguments it wants
     Symbol { word: u16, arity: u16 },
     Variable { number: usize, grounded: bool },
@@ -22,55 +21,46 @@ pub enum Look {
 pub fn mode_of(grounded: bool) -> u16
     ensures { result ≡ mode_of grounded }
 {
-    if grounded {
-        return 1;
-    }
-    0
+    u16::from(grounded)
 }
 
-fn symbol_at(arities: &[u16], from: usize, to: usize, n: usize) -> Look
+fn symbol_at(arities: &[u16], from: usize, to: usize, n: usize) -> Result<Seen, Refusal>
     requires { (from ≤ n) × (to ≤ max_names) × (to ≤ length arities.now) }
-    ensures { result ≡ symbol_at arities.now from to n }
+    ensures { look_in result ≡ symbol_at arities.now from to n }
 {
     if n < to {
-        return Look::Symbol {
+        return Ok(Seen::Symbol {
             word: (n - from) as u16,
             arity: arities[n],
-        };
+        });
     }
-    Look::Fault(UNDECLARED)
+    Err(Refusal::Undeclared)
 }
 
 // "a variable is above 15 or skips a number"; "a query variable is both `V` and `G`"
-fn variable_at(seen: usize, modes: &[u16], v: usize, grounded: bool) -> Look
-    requires { 15 < length modes.now }
-    ensures { result ≡ variable_at seen modes.now v grounded }
+fn variable_at(seen: usize, modes: &[u16; 16], v: usize, grounded: bool) -> Result<Seen, Refusal>
+    ensures { look_in result ≡ variable_at seen modes.now v grounded }
 {
-    if MAX_VARIABLE < v {
-        return Look::Fault(BAD_VARIABLE);
+    if MAX_VARIABLE < v || seen < v {
+        return Err(Refusal::BadVariable);
     }
-    if seen < v {
-        return Look::Fault(BAD_VARIABLE);
+    if v < seen && modes[v] != mode_of(grounded) {
+        return Err(Refusal::BothModes);
     }
-    if v < seen {
-        if modes[v] != mode_of(grounded) {
-            return Look::Fault(BOTH_MODES);
-        }
-    }
-    Look::Variable {
+    Ok(Seen::Variable {
         number: v,
         grounded,
-    }
+    })
 }
 
 // A symbol that is declared, from number `from` on and below number `to`.
-fn named(s: &[u8], from: usize, to: usize, names: &[u8], hashes: &[u32], arities: &[u16]) -> Look
-    requires { (from ≤ to) × (to ≤ max_names) × (to * name_bytes ≤ length names.now) × (to ≤ length hashes.now) × (to ≤ length arities.now) }
-    ensures { Hashed names.now hashes.now from to → result ≡ named_of names.now arities.now from to s.now }
+fn named(s: &[u8], from: usize, to: usize, symbols: &SymbolRoom) -> Result<Seen, Refusal>
+    requires { (from ≤ to) × (to ≤ max_names) }
+    ensures { Hashed symbols.now.names symbols.now.hashes from to → look_in result ≡ named_of symbols.now.names symbols.now.arities from to s.now }
 {
     let key = pad(s);
-    let n = find_name(names, hashes, from, to, &key);
-    symbol_at(arities, from, to, n)
+    let n = find_name(&symbols.names, &symbols.hashes, from, to, &key);
+    symbol_at(&symbols.arities, from, to, n)
 }
 
 // The first cell of an atom.
@@ -79,30 +69,17 @@ fn start_of(
     token: Token,
     p: Progress,
     c: Counts,
-    names: &[u8],
-    hashes: &[u32],
-    arities: &[u16],
-) -> Look
-    requires { Roomy c names.now hashes.now arities.now }
-    ensures { Hashed names.now hashes.now 0 (c.predicates + c.functions) → result ≡ start_of (symbols_in c names.now arities.now) p.atoms s.now token }
+    symbols: &SymbolRoom,
+) -> Result<Seen, Refusal>
+    requires { Few c }
+    ensures { Hashed symbols.now.names symbols.now.hashes 0 (c.predicates + c.functions) → look_in result ≡ start_of (symbols_in c symbols.now.names symbols.now.arities) p.atoms s.now (Some token) }
 {
+    if MAX_BODY < p.atoms {
+        return Err(Refusal::OutOfRange);
+    }
     match token {
-        Token::Wrong => Look::Fault(ILL_FORMED),
-        Token::Name => {
-            if MAX_BODY < p.atoms {
-                return Look::Fault(OUT_OF_RANGE);
-            }
-            named(s, 0, c.predicates, names, hashes, arities)
-        }
-        Token::Variable {
-            grounded: _,
-            number: _,
-        } => {
-            if MAX_BODY < p.atoms {
-                return Look::Fault(OUT_OF_RANGE);
-            }
-            Look::Fault(UNDECLARED)
-        }
+        Token::Name => named(s, 0, c.predicates, symbols),
+        Token::Variable { .. } => Err(Refusal::Undeclared),
     }
 }
 
@@ -112,35 +89,18 @@ fn argument_of(
     token: Token,
     p: Progress,
     c: Counts,
-    names: &[u8],
-    hashes: &[u32],
-    arities: &[u16],
-    modes: &[u16],
-) -> Look
-    requires { Roomy c names.now hashes.now arities.now × (15 < length modes.now) }
-    ensures { Hashed names.now hashes.now 0 (c.predicates + c.functions) → result ≡ argument_of (symbols_in c names.now arities.now) (row_of p modes.now []) s.now token }
+    symbols: &SymbolRoom,
+    modes: &[u16; 16],
+) -> Result<Seen, Refusal>
+    requires { Few c }
+    ensures { Hashed symbols.now.names symbols.now.hashes 0 (c.predicates + c.functions) → look_in result ≡ argument_of (symbols_in c symbols.now.names symbols.now.arities) (row_of p modes.now []) s.now (Some token) }
 {
+    if ATOM_CELLS <= p.cells {
+        return Err(Refusal::LongAtom);
+    }
     match token {
-        Token::Wrong => Look::Fault(ILL_FORMED),
-        Token::Name => {
-            if ATOM_CELLS <= p.cells {
-                return Look::Fault(LONG_ATOM);
-            }
-            named(
-                s,
-                c.predicates,
-                c.predicates + c.functions,
-                names,
-                hashes,
-                arities,
-            )
-        }
-        Token::Variable { grounded, number } => {
-            if ATOM_CELLS <= p.cells {
-                return Look::Fault(LONG_ATOM);
-            }
-            variable_at(p.variables, modes, number, grounded)
-        }
+        Token::Name => named(s, c.predicates, c.predicates + c.functions, symbols),
+        Token::Variable { grounded, number } => variable_at(p.variables, modes, number, grounded),
     }
 }
 
@@ -150,17 +110,15 @@ pub fn look_at(
     query: bool,
     p: Progress,
     c: Counts,
-    names: &[u8],
-    hashes: &[u32],
-    arities: &[u16],
-    modes: &[u16],
-) -> Look
-    requires { Roomy c names.now hashes.now arities.now × (15 < length modes.now) }
-    ensures { Hashed names.now hashes.now 0 (c.predicates + c.functions) → result ≡ look_of (symbols_in c names.now arities.now) query (row_of p modes.now []) s.now }
+    symbols: &SymbolRoom,
+    modes: &[u16; 16],
+) -> Result<Seen, Refusal>
+    requires { Few c }
+    ensures { Hashed symbols.now.names symbols.now.hashes 0 (c.predicates + c.functions) → look_in result ≡ look_of (symbols_in c symbols.now.names symbols.now.arities) query (row_of p modes.now []) s.now }
 {
-    let token = token_of(s, query);
+    let token = token_of(s, query).ok_or(Refusal::IllFormed)?;
     if p.wanted == 0 {
-        return start_of(s, token, p, c, names, hashes, arities);
+        return start_of(s, token, p, c, symbols);
     }
-    argument_of(s, token, p, c, names, hashes, arities, modes)
+    argument_of(s, token, p, c, symbols, modes)
 }

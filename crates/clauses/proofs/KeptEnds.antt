@@ -1,19 +1,17 @@
 -- A clause whose marks are kept: what the step at its head gives, and what is kept and empty after it.
-use Prim.Native.Nat.{ℕ, ◌+◌, ◌*◌, ◌≤◌, ◌<◌}
+use Prim.Native.Nat.{ℕ, ◌+◌, ◌*◌, ◌≤◌, ◌<◌, min}
 use native.Mathlib.Omega.{arith}
 use mir.Syntax.{w64}
 use mir.Val.{Fits}
-use mathlib.Core.Path.{◌≡◌, refl, ◌∙◌}
-use mathlib.Core.List.{List, ◌++◌, Memᴰ}
-use lib.ListN.{length, get_or, set, drop, replicate}
+use mathlib.Core.Path.{◌≡◌, refl}
+use mathlib.Core.List.{List, Memᴰ}
+use lib.ListN.{length, get_or, set, replicate}
 use Rattle.program.specs.Lists.{between}
 use Rattle.program.specs.Program.{Program}
-use Rattle.program.specs.Limits.{masks}
 use Rattle.directory.specs.Layout.{clause_vars}
 use Rattle.rows.specs.Rows.{keys_of}
 use Rattle.rows.specs.MaskSet.{set_words, InSet}
 use Rattle.rows.specs.KeptSets.{Gained, Unkept, things, known_of, kept_words}
-use Rattle.rows.proofs.ClearedMarks.{cleared_empty}
 use Rattle.table.proofs.Added.{behind_keeps}
 use Rattle.steps.specs.Steps.{Given, Writable, Stepped}
 use Rattle.steps.specs.Situation.{HeadAsked}
@@ -25,6 +23,10 @@ use Rattle.ends.specs.Keeping.{kept_vars, kept_set, KeepingMarks, KeepsMarks}
 use Rattle.ends.proofs.HeadMarks.{mark_below}
 use Rattle.ends.proofs.KeptMarks.{few_masks, keeps_marks, marks_stay}
 use Rattle.ends.proofs.Endings.{known_ends, known_keeps}
+
+-- the rows that are known, where they are fewer than the rows before the last round, and else these
+pub earlier : (since known rows earliest : ℕ) → rows ≡ known → earliest ≡ min rows since → (earliest ≤ since) × (earliest ≤ known)
+earlier since known rows earliest e f = (omega arith, omega arith)
 
 -- the word that says how many rows are known is one of those that are kept
 pub kept_room : (size size' k : ℕ) → k < things → size ≡ kept_words kept_set → size' ≡ size → kept_set * things + k < size'
@@ -42,15 +44,14 @@ module _ (words dir table heads : List ℕ) (since rows k : ℕ) (w : HeadAsked 
   abbrev keeping : KeepingMarks p table kept rows (keys_of table n)
   keeping = keeps p w.situation.setting
 
-  -- once the words that are kept are cleared the set is empty
-  pub kept_cleared : (marks : ℕ) → FoundOn p table rows k (length w.clause.c.body) new marks → ((v : ℕ) → get_or new v 0 < masks) → replicate kept_set 0 ++ drop kept_set new ≡ replicate set_words 0
-  kept_cleared marks on small =
-      cleared_empty new kept_set (unkept.as_long ∙ marked.size) (omega arith) small
-      (λ q h. omega (
+  -- the set has no mark behind the words that are kept
+  pub kept_below : (marks : ℕ) → FoundOn p table rows k (length w.clause.c.body) new marks → (q : ℕ) → InSet new q → q < 16 * kept_set
+  kept_below marks on q h =
+      omega (
         arith,
         few_masks words dir table heads since rows k w kept keeping few (kept_set * k) (kept_set * k + kept_set) refl refl,
         mark_below words dir table heads since rows k w 0 rows q (on.result q h),
-      ))
+      )
 
   module _ (buckets : List ℕ) (number room n' : ℕ) (table' buckets' : List ℕ)
       (step : Stepped (Given p (keys_of table rows)) number room n table buckets

@@ -1,113 +1,87 @@
 // A clause in a round: the combinations with a row of the last round, place by place.
-ghost use Rattle.std.specs.Prelude.{◌≡◌, ◌≤◌, length, replicate};
+ghost use Rattle.std.specs.Prelude.{IfOk};
 ghost use Rattle.marks.specs.Modes.{modes};
-ghost use Rattle.program.specs.Limits.{max_rows};
 ghost use Rattle.rows.specs.Rows.{keys_of};
-ghost use Rattle.rows.specs.MaskSet.{set_words};
+ghost use Rattle.rows.specs.Store.{reached};
 ghost use Rattle.table.specs.NewRows.{NewIn};
 ghost use Rattle.table.specs.RoundKeys.{Keyed};
 ghost use Rattle.steps.specs.Situation.{HeadAsked};
-ghost use Rattle.steps.specs.Steps.{Given, RowsIn, Writable, Stepped};
+ghost use Rattle.steps.specs.Steps.{Given, RowsIn, Stepped};
 ghost use Rattle.steps.specs.Unifiers.{Room};
 ghost use Rattle.ends.specs.Ends.{Scratch};
 ghost use Rattle.clauses.specs.Clauses.{MiddlesAsked, PastPlaces};
-ghost use Rattle.ends.specs.Keeping.{KeepsMarks};
-ghost use Rattle.joining.specs.KeptAnswers.{KeepsAnswers};
+ghost use Rattle.clauses.specs.Working.{Working};
 
 use crate::ending::end_clause;
+use crate::workspace::Workspace;
+use directory::encoded::Encoded;
 use directory::layout::CLAUSE_FIRST;
 use joining::joins::middle_place;
+use rows::store::NoRoom;
 use steps::place::Round;
-use terms::walk::wide;
 
 // The middle places of a clause, whose body atoms are first..last.
-fn middle_places<'a>(
-    words: &'a [u16],
-    dir: &'a [u16],
+fn middle_places(
+    program: &Encoded,
     table: &mut [u16],
-    buckets: &mut [u16],
     heads: &[u16],
-    seen: &mut [u16],
-    answers: &mut [u16],
-    answered: &mut [u16],
+    work: &mut Workspace,
     n: usize,
     at: Round,
     first: usize,
     last: usize,
-) -> usize
-    requires { MiddlesAsked words.now dir.now table.old heads.now at.since at.rows first last × Writable table.old buckets.old n at.room × (at.rows ≤ n)
-        × (seen.old ≡ replicate set_words 0) × (length answers.old ≡ max_rows) × KeepsAnswers words.now dir.now table.old answered.old at.rows }
-    ensures { (seen.new ≡ replicate set_words 0)
-        × ((w : MiddlesAsked words.now dir.now table.old heads.now at.since at.rows first last)
-        → Stepped (Given w.situation.p (keys_of table.old at.rows)) at.number at.room n table.old buckets.old
-        (PastPlaces w.situation.p (keys_of table.old at.since) (keys_of table.old at.rows) w.k w.middles) result table.new buckets.new)
-        × (result ≤ at.room → KeepsAnswers words.now dir.now table.new answered.new at.rows) }
+) -> Result<usize, NoRoom>
+    requires { MiddlesAsked program.now.words.now program.now.dir.now table.old heads.now at.since at.rows first last
+        × Working program.now.words.now program.now.dir.now table.old work.old at.rows n at.room }
+    ensures scratch { Scratch work.new.answers work.new.found }
+    ensures stepped { (w : MiddlesAsked program.now.words.now program.now.dir.now table.old heads.now at.since at.rows first last)
+        → Stepped (Given w.situation.p (keys_of table.old at.rows)) at.number at.room n table.old work.old.buckets
+        (PastPlaces w.situation.p (keys_of table.old at.since) (keys_of table.old at.rows) w.k w.middles) (reached at.room result) table.new work.new.buckets }
+    ensures works { IfOk result (λ m. Working program.now.words.now program.now.dir.now table.new work.new at.rows m at.room) }
 {
-    let room = at.room;
     let mut rows = n;
-    let mut j = first;
-    while j < last {
+    for j in first..last {
         rows = middle_place(
-            words, dir, table, buckets, heads, seen, answers, answered, rows, at, j,
-        );
-        if room < rows {
-            return rows;
-        }
-        j += 1;
+            program,
+            table,
+            &mut work.buckets,
+            heads,
+            &mut work.found,
+            &mut work.answers,
+            &mut work.answered,
+            rows,
+            at,
+            j,
+        )?;
     }
-    rows
+    Ok(rows)
 }
 
 // All that a round looks at in clause k.
-pub fn clause<'a>(
-    words: &'a [u16],
-    dir: &'a [u16],
+#[tactic(auto, using(calling::proofs::ShapeVisits::clause_in_dir))]
+pub fn clause(
+    program: &Encoded,
     table: &mut [u16],
-    buckets: &mut [u16],
     heads: &[u16],
+    work: &mut Workspace,
     unifiers: &mut [u8],
-    answers: &mut [u16],
-    found: &mut [u16],
-    kept: &mut [u16],
-    answered: &mut [u16],
     n: usize,
     at: Round,
     k: usize,
-) -> usize
-    requires { HeadAsked words.now dir.now table.old heads.now at.since at.rows k × Writable table.old buckets.old n at.room × (at.rows ≤ n)
-        × Scratch answers.old found.old × KeepsMarks words.now dir.now table.old kept.old at.rows n
-        × KeepsAnswers words.now dir.now table.old answered.old at.rows × Room unifiers.old }
-    ensures { Scratch answers.new found.new
-        × ((w : HeadAsked words.now dir.now table.old heads.now at.since at.rows k)
-        → Stepped (Given w.situation.p (keys_of table.old at.rows)) at.number at.room n table.old buckets.old
-        (Keyed w.situation.p (NewIn modes w.situation.p (RowsIn w.situation.p (keys_of table.old at.since)) (RowsIn w.situation.p (keys_of table.old at.rows)) k)) result table.new buckets.new)
-        × (result ≤ at.room → KeepsMarks words.now dir.now table.new kept.new at.rows result)
-        × (result ≤ at.room → KeepsAnswers words.now dir.now table.new answered.new at.rows) }
+) -> Result<usize, NoRoom>
+    requires { HeadAsked program.now.words.now program.now.dir.now table.old heads.now at.since at.rows k
+        × Working program.now.words.now program.now.dir.now table.old work.old at.rows n at.room × Room unifiers.old }
+    ensures scratch { Scratch work.new.answers work.new.found }
+    ensures stepped { (w : HeadAsked program.now.words.now program.now.dir.now table.old heads.now at.since at.rows k)
+        → Stepped (Given w.situation.p (keys_of table.old at.rows)) at.number at.room n table.old work.old.buckets
+        (Keyed w.situation.p (NewIn modes w.situation.p (RowsIn w.situation.p (keys_of table.old at.since)) (RowsIn w.situation.p (keys_of table.old at.rows)) k)) (reached at.room result) table.new work.new.buckets }
+    ensures works { IfOk result (λ m. Working program.now.words.now program.now.dir.now table.new work.new at.rows m at.room) }
 {
-    let room = at.room;
-    let first = wide(dir[CLAUSE_FIRST + k]);
-    let end = wide(dir[CLAUSE_FIRST + k + 1]);
+    let first = usize::from(program.dir[CLAUSE_FIRST + k]);
+    let end = usize::from(program.dir[CLAUSE_FIRST + k + 1]);
     let mut rows = n;
     if first < end {
-        rows = middle_places(
-            words,
-            dir,
-            table,
-            buckets,
-            heads,
-            found,
-            answers,
-            answered,
-            rows,
-            at,
-            first,
-            end - 1,
-        );
-        if room < rows {
-            return rows;
-        }
+        rows = middle_places(program, table, heads, work, rows, at, first, end - 1)?;
     }
-    end_clause(
-        words, dir, table, buckets, heads, unifiers, answers, found, kept, answered, rows, at, k,
-    )
+    end_clause(program, table, heads, work, unifiers, rows, at, k)
 }

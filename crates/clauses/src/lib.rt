@@ -2,6 +2,8 @@
 #![tactic(auto)]
 
 pub mod clauses;
+mod emptied;
 pub mod ending;
 mod kept;
 mod wide;
+pub mod workspace;

@@ -17,7 +17,7 @@ use Rattle.marks.specs.Modes.{modes}
 use Rattle.program.specs.Program.{Nth, Clause, Program}
 use Rattle.program.specs.Shapes.{shapes}
 use Rattle.program.proofs.Nths.{nth_below}
-use Rattle.directory.specs.Layout.{clause_head, body_start, shape_start, shape_cells, dir_words}
+use Rattle.directory.specs.Layout.{clause_head, clause_first, body_start, shape_start, shape_cells, dir_words}
 use Rattle.directory.specs.Directory.{predicate_of}
 use Rattle.rows.specs.Rows.{slot_at, mask_at, key_at, keys_of}
 use Rattle.rows.proofs.Keys.{key_slot, key_mask, key_listed}
@@ -34,8 +34,9 @@ use Rattle.steps.proofs.Bodies.{head_is_atom, body_is_atom, body_there, body_few
 use Rattle.steps.proofs.BodyAtoms.{some_cells, predicate_there}
 use Rattle.steps.proofs.ShapeAtoms.{shape_is_atom}
 use Rattle.steps.proofs.SlotRows.{in_slot}
-use Rattle.concerns.specs.Standing.{Stands}
+use Rattle.concerns.specs.Standing.{Stands, Belongs}
 use Rattle.concerns.specs.Active.{Concerns, by_call, by_cont, by_solution, Entered, HeadsEntered, BodiesEntered, ShapeAsked}
+use Rattle.concerns.proofs.BodyClauses.{clause_few, place_few, cont_body}
 
 -- a round looks at nothing in a clause that no new row concerns
 module _ {words dir : List ℕ} {p : Program} (s : Setting words dir p) (T₀ T : Row ℕ → Type 0) (k : ℕ)
@@ -213,11 +214,22 @@ module _ {words dir table : List ℕ} {r : ℕ} (w : Stands words dir table r) (
           let f : q ≡ predicate_of A = named (record { p = w.p; setting = w.setting; S = S; nth_shape = rw d hs }) ∙ sym same in
           rw f (entered k i c A hc hA)
 
-  pub cont_concerns : (k' : ℕ) → ((b : BodyOf w.p (slot - first_cont)) → k' ≡ b.k) → first_cont ≤ slot → slot < first_solution → (k : ℕ) → Concerns w.p k w.row → (k' ≡ k) × (k < 64)
-  cont_concerns k' named l l' k h = at w.row (is ∙ w.slot) w.regular h
+  pub cont_concerns : (j k' : ℕ) → j ≡ slot - first_cont → ((b : BodyOf w.p j) → k' ≡ b.k) → first_cont ≤ slot → slot < first_solution → (k : ℕ) → Concerns w.p k w.row → (k' ≡ k) × (k < 64)
+  cont_concerns j k' body named l l' k h = at w.row (is ∙ w.slot) w.regular h
     where
       at : (row : Row ℕ) → slot ≡ slot_of w.p row → Regular w.p row → Concerns w.p k row → (k' ≡ k) × (k < 64)
       at _ e g (by_call hc hs same) = absurd (omega (arith, few_shapes hs))
       at _ e (regular_cont {k = k} {i = i} {c = c} {A = A} hc hA within small) by_cont =
           (named (record { k = k; i = i; c = c; A = A; nth_clause = hc; nth_atom = hA; is = omega arith }), omega (arith, nth_below hc, (setting_within w.setting).clauses_most))
       at _ e g (by_solution hc hA hs same) = absurd (omega arith)
+
+  -- the body atom of a cont row, and its clause
+  pub cont_belongs : {j : ℕ} → (first_cont ≤ slot) × (slot < first_solution) × (j ≡ slot - first_cont) → Belongs words dir j
+  cont_belongs (a, b, e) = rw e (record { p = w.p; setting = w.setting; body = cont_body w.setting w.row w.regular slot (is ∙ w.slot) a b })
+
+  pub cont_few : {j k : ℕ} → (first_cont ≤ slot) × (slot < first_solution) × (j ≡ slot - first_cont) → ((v : Belongs words dir j) → k ≡ v.body.k)
+      → (k < 64) × (length dir ≡ dir_words) × (get_or dir (clause_first + k) 0 ≤ j)
+  cont_few {j} h named =
+      let v = cont_belongs h in
+      let few = clause_few v.setting j v.body in
+      rw (named v) (few.0, few.1, (place_few v.setting j v.body).1)

@@ -2,9 +2,16 @@
 use Prim.Native.Nat.{ℕ, zero, suc, ◌+◌, ◌-◌, ◌≤◌, ◌<◌}
 use native.Mathlib.Omega.{arith}
 use native.Mathlib.Decide.{dec_lt}
-use mathlib.Core.Path.{◌≡◌, sym, ap, ◌∙◌}
+use mathlib.Core.Path.{◌≡◌, refl, sym, ap, ◌∙◌}
+use mathlib.Core.Bool.{true, cond}
 use mathlib.Core.List.{List}
-use lib.ListN.{length, get_or}
+use lib.Dec.{ltb}
+use lib.ListN.{length, take, drop, get_or, length-drop}
+use lib.Seq.{get_or-drop, take-length}
+use Rattle.std.specs.Prelude.{Option, Some, None}
+use Rattle.std.specs.List.{position_or_len}
+use Rattle.std.proofs.lemmas.Bool.{lt-ltb, le-ltb}
+use Rattle.std.proofs.lemmas.List.Sums.{position_or_len_is}
 use Rattle.terms.specs.Term.{Term}
 use Rattle.program.specs.Program.{Nth, Clause, Program}
 use Rattle.program.specs.Shapes.{shapes}
@@ -32,19 +39,32 @@ module _ {words dir : List ℕ} {p : Program} (s : Setting words dir p) where
     body_first : j ≡ get_or dir (clause_first + b.k) 0 + b.i
     body_first = b.is ∙ ap (λ (x : ℕ). x + b.i) (sym (first_body s b.k (let l = nth_below b.nth_clause in omega arith)))
 
-    -- a clause that ends before the body atom is one before its clause
-    pub clause_later : (k : ℕ) → k ≤ b.k → get_or dir (clause_first + k + 1) 0 ≤ j → k + 1 ≤ b.k
-    clause_later k l h = at (dec_lt k b.k)
-      where
-        at : Dec (k < b.k) → k + 1 ≤ b.k
-        at (yes d) = omega arith
-        at (no d) =
-            let e : clause_first + k + 1 ≡ clause_first + suc b.k = omega arith in
-            let n = (s.directory.clause b.nth_clause).first_next in
-            let h' : get_or dir (clause_first + suc b.k) 0 ≤ j = rw e at h in
-            absurd (omega (arith, nth_below b.nth_atom, body_first))
+    -- where the bodies end, the first that is behind the body atom is its clause's
+    pub clause_position : position_or_len (λ (behind : ℕ). ltb j behind) (drop (clause_first + 1) dir) ≡ b.k
+    clause_position =
+        let e : clause_first + (b.k + 1) ≡ clause_first + suc b.k = omega arith in
+        let n = (s.directory.clause b.nth_clause).first_next in
+        let few = (setting_within s).clauses_most in
+        position_or_len_is (λ (behind : ℕ). ltb j behind) (drop (clause_first + 1) dir) b.k 0 (omega (arith, length-drop (clause_first + 1) dir, s.directory.size, nth_below b.nth_clause))
+        (λ k l.
+        let m : k + 1 + (b.k - (k + 1)) ≡ b.k = omega arith in
+        let f = firsts_rise (k + 1) (b.k - (k + 1)) (omega (arith, nth_below b.nth_clause)) in
+        let g : get_or dir (clause_first + (k + 1)) 0 ≤ get_or dir (clause_first + b.k) 0 = rw m at f in
+        let h : clause_first + 1 + k ≡ clause_first + (k + 1) = omega arith in
+        le-ltb j _ (rw (get_or-drop (clause_first + 1) dir k 0, h) (omega (arith, body_first))))
+        (λ l.
+        let h : clause_first + 1 + b.k ≡ clause_first + suc b.k = omega arith in
+        lt-ltb j _ (rw (get_or-drop (clause_first + 1) dir b.k 0, h) (omega (arith, nth_below b.nth_atom, body_first))))
 
-    -- and one that ends behind it is its clause
+    pub clause_there : (r : Option ℕ) (ends : List ℕ) → ends ≡ take (length dir - (clause_first + 1)) (drop (clause_first + 1) dir)
+        → r ≡ cond (ltb (position_or_len (λ (behind : ℕ). ltb j behind) ends) (length ends)) (Some (position_or_len (λ (behind : ℕ). ltb j behind) ends)) None → r ≡ Some b.k
+    clause_there r ends same is =
+        let few = (setting_within s).clauses_most in
+        let all : ends ≡ drop (clause_first + 1) dir = same ∙ rw (← length-drop (clause_first + 1) dir) (take-length (drop (clause_first + 1) dir)) in
+        let t : ltb b.k (length (drop (clause_first + 1) dir)) ≡ true = lt-ltb _ _ (omega (arith, length-drop (clause_first + 1) dir, s.directory.size, nth_below b.nth_clause)) in
+        is ∙ rw (all, clause_position, t) refl
+
+    -- a clause that ends behind the body atom, and is not behind its clause, is its clause
     pub clause_found : (k : ℕ) → k ≤ b.k → j < get_or dir (clause_first + k + 1) 0 → k ≡ b.k
     clause_found k l h = at (dec_lt k b.k)
       where

@@ -1,3 +1,4 @@
 -- What stands where, and which clauses a row concerns.
 pub mod Standing
 pub mod Active
+pub mod Slots

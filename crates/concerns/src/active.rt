@@ -13,63 +13,50 @@ ghost use Rattle.concerns.specs.Standing.{Stands};
 ghost use Rattle.concerns.specs.Active.{Indexed, Concerns, ShapeAsked, RoundAsked};
 
 use crate::bodies::clause_of;
+use crate::index::Index;
+use crate::slot::Slot;
+use directory::encoded::Encoded;
 use directory::layout::{SHAPE_CELLS, SHAPE_START};
 use rows::row::slot_at;
-use steps::place::{CONTS, SOLUTIONS};
-use terms::walk::wide;
 
 // The predicate of shape s.
-fn predicate_of(words: &[u16], dir: &[u16], s: usize) -> usize
-    requires { ShapeAsked words.now dir.now s }
-    ensures { (w : ShapeAsked words.now dir.now s) → result ≡ predicate_of w.S }
+fn predicate_of(program: &Encoded, s: usize) -> usize
+    requires { ShapeAsked program.now.words.now program.now.dir.now s }
+    ensures { (w : ShapeAsked program.now.words.now program.now.dir.now s) → result ≡ predicate_of w.S }
 {
-    wide(dir[SHAPE_CELLS + wide(dir[SHAPE_START + s])])
+    usize::from(program.dir[SHAPE_CELLS + usize::from(program.dir[SHAPE_START + s])])
 }
 
 // The clauses that row r concerns.
-fn concerned(
-    words: &[u16],
-    dir: &[u16],
-    table: &[u16],
-    r: usize,
-    headed: &[u64],
-    bodied: &[u64],
-) -> u64
-    requires { Stands words.now dir.now table.now r × (row_size * r + 4 < length table.now) × (length headed.now ≡ 64) × (length bodied.now ≡ 64) }
-    ensures { (w : Stands words.now dir.now table.now r) → Indexed w.p headed.now bodied.now
+fn concerned(program: &Encoded, table: &[u16], r: usize, index: &Index) -> u64
+    requires { Stands program.now.words.now program.now.dir.now table.now r × (row_size * r + 4 < length table.now) × (length index.now.headed ≡ 64) × (length index.now.bodied ≡ 64) }
+    ensures { (w : Stands program.now.words.now program.now.dir.now table.now r) → Indexed w.p index.now.headed index.now.bodied
         → (k : ℕ) → Concerns w.p k w.row → Has result k }
 {
-    let slot = wide(slot_at(table, r));
-    if slot < CONTS {
-        return headed[predicate_of(words, dir, slot)];
+    match Slot::of(slot_at(table, r)) {
+        Slot::Call(s) => index.headed[predicate_of(program, s)],
+        Slot::Cont(j) => 1u64 << clause_of(program, j),
+        Slot::Solution(s) => index.bodied[predicate_of(program, s)],
     }
-    if slot < SOLUTIONS {
-        return 1u64 << clause_of(words, dir, slot - CONTS);
-    }
-    bodied[predicate_of(words, dir, slot - SOLUTIONS)]
 }
 
 // The clauses that a row from `since` on concerns.
 pub fn active(
-    words: &[u16],
-    dir: &[u16],
+    program: &Encoded,
     table: &[u16],
     heads: &[u16],
     since: usize,
     rows: usize,
-    headed: &[u64],
-    bodied: &[u64],
+    index: &Index,
 ) -> u64
-    requires { RoundAsked words.now dir.now table.now heads.now headed.now bodied.now since rows }
-    ensures { (w : Situation words.now dir.now table.now heads.now since rows) → Indexed w.p headed.now bodied.now
+    requires { RoundAsked program.now.words.now program.now.dir.now table.now heads.now index.now.headed index.now.bodied since rows }
+    ensures { (w : Situation program.now.words.now program.now.dir.now table.now heads.now since rows) → Indexed w.p index.now.headed index.now.bodied
         → (k : ℕ) (row : Row ℕ) → New modes w.p (RowsIn w.p (keys_of table.now since)) (RowsIn w.p (keys_of table.now rows)) row
         → Concerns w.p k row → Has result k }
 {
-    let mut set = 0u64;
-    let mut r = since;
-    while r < rows {
-        set = set | concerned(words, dir, table, r, headed, bodied);
-        r += 1;
+    let mut set = 0;
+    for r in since..rows {
+        set |= concerned(program, table, r, index);
     }
     set
 }

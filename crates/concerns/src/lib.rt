@@ -4,3 +4,4 @@
 pub mod active;
 pub mod bodies;
 pub mod index;
+pub mod slot;

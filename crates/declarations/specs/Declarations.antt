@@ -1,13 +1,9 @@
 -- Declaration lines: a name that is new in its kind, and its arity.
-use Rattle.std.specs.Prelude.{ℕ, ◌+◌, Bool, cond, ◌&&◌, ◌||◌, List, [], ◌∷◌, ◌++◌, length, eqb, ltb}
+use Rattle.std.specs.Prelude.{ℕ, ◌+◌, Bool, cond, ◌&&◌, ◌||◌, Option, Some, None, List, [], ◌∷◌, ◌++◌, length, eqb, ltb}
 use Rattle.program.specs.Limits.{max_declared, max_arity}
 use Rattle.program.specs.Reply.{out_of_range, ill_formed, bad_name}
 use Rattle.text.specs.Token.{is_name, number_of}
 use Rattle.text.specs.Name.{padded, seek}
-use Rattle.text.specs.declared.token.Number.{Number}
-use Rattle.text.specs.declared.token.Number.TheVariants.{None, Value}
-use Rattle.declarations.specs.declared.declare.Declared.{Declared}
-use Rattle.declarations.specs.declared.declare.Declared.TheVariants.{Fault, Symbol}
 use Rattle.cells.specs.TextSoFar.{Read, wrong, right, pred_section, func_section, TextSoFar, count, later, with_line}
 
 -- `pred` and `func` have four letters
@@ -18,14 +14,14 @@ declaring = 4
 abbrev pub fresh : List ℕ → ℕ → ℕ → List ℕ → Bool
 fresh names from n s = is_name s && eqb (seek names (padded s) from n) (from + n)
 
-abbrev pub arity_of : ℕ → Number → Declared
-arity_of at None = Fault ill_formed at
-arity_of at (Value n) = cond (ltb max_arity n) (Fault out_of_range at) (Symbol n)
+abbrev pub arity_of : ℕ → Option ℕ → Read ℕ
+arity_of at None = wrong ill_formed at
+arity_of at (Some n) = cond (ltb max_arity n) (wrong out_of_range at) (right n)
 
 -- a name and an arity, behind the tab at `at`
-abbrev pub symbol_of : List ℕ → ℕ → ℕ → ℕ → List ℕ → List ℕ → Declared
+abbrev pub symbol_of : List ℕ → ℕ → ℕ → ℕ → List ℕ → List ℕ → Read ℕ
 symbol_of names from n at name arity =
-    cond (fresh names from n name) (arity_of (at + 1 + length name + 1) (number_of arity)) (Fault bad_name (at + 1))
+    cond (fresh names from n name) (arity_of (at + 1 + length name + 1) (number_of arity)) (wrong bad_name (at + 1))
 
 -- "if a declaration has not exactly three fields": two behind the keyword
 abbrev pub two : {A : Type 0} → ℕ → List (List ℕ) → (List ℕ → List ℕ → Read A) → Read A
@@ -43,9 +39,9 @@ abbrev pub opens : {A : Type 0} → TextSoFar → ℕ → ℕ → Read A → Rea
 opens t section at line =
     cond (eqb (later t.lines section) 0) (cond (may_come t section) line (wrong out_of_range at)) (wrong ill_formed at)
 
-abbrev pub declared : TextSoFar → ℕ → List ℕ → Declared → Read TextSoFar
-declared t section name (Fault number place) = wrong number place
-declared t section name (Symbol arity) = right (with_line t section (t.names ++ padded name) (arity ∷ []))
+abbrev pub declared : TextSoFar → ℕ → List ℕ → Read ℕ → Read TextSoFar
+declared t section name (wrong number place) = wrong number place
+declared t section name (right arity) = right (with_line t section (t.names ++ padded name) (arity ∷ []))
 
 -- a declaration of a section whose first name has number `from`: a line at `at`, with its fields behind the keyword
 abbrev pub declaration_line : TextSoFar → ℕ → ℕ → ℕ → List (List ℕ) → Read TextSoFar

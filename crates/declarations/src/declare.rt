@@ -1,71 +1,58 @@
 // A declaration: a name that is new in its kind, and its arity.
-ghost use Rattle.std.specs.Prelude.{◌≡◌, ◌+◌, ◌*◌, ◌^◌, ◌≤◌, ◌<◌, length};
-ghost use Rattle.text.specs.Name.{Hashed, max_names, name_bytes};
+ghost use Rattle.std.specs.Prelude.{◌≡◌, ◌+◌, ◌^◌, ◌≤◌, ◌<◌, length};
+ghost use Rattle.text.specs.Name.{Hashed, max_names};
 ghost use Rattle.text.specs.Token.{number_of};
+ghost use Rattle.cells.specs.TextSoFar.{reading_of};
 ghost use Rattle.declarations.specs.Declarations.{fresh, arity_of, symbol_of};
 
+use cells::state::SymbolRoom;
 use program::limits::MAX_ARITY;
-use program::reply::{BAD_NAME, ILL_FORMED, OUT_OF_RANGE};
+use program::reply::{Fault, Refusal};
 use text::name::{find_name, pad};
-use text::token::{Number, is_name, number_of};
-
-#[derive(Drop)]
-pub enum Declared {
-    Fault { number: u16, place: usize },
-    // the arity
-    Symbol(u16),
-}
+use text::token::{is_name, number_of};
 
 // "a declared name is ill formed, or declared twice in its kind": whether it is neither.
-fn is_fresh(s: &[u8], from: usize, count: usize, names: &[u8], hashes: &[u32]) -> bool
-    requires { (from + count ≤ max_names) × (length names.now ≡ max_names * name_bytes) × (length hashes.now ≡ max_names) }
-    ensures { Hashed names.now hashes.now from (from + count) → result ≡ fresh names.now from count s.now }
+fn is_fresh(s: &[u8], from: usize, count: usize, symbols: &SymbolRoom) -> bool
+    requires { from + count ≤ max_names }
+    ensures { Hashed symbols.now.names symbols.now.hashes from (from + count) → result ≡ fresh symbols.now.names from count s.now }
 {
-    if !is_name(s) {
-        return false;
-    }
-    let key = pad(s);
-    find_name(names, hashes, from, from + count, &key) == from + count
+    let end = from + count;
+    is_name(s) && find_name(&symbols.names, &symbols.hashes, from, end, &pad(s)) == end
 }
 
-fn arity_of(s: &[u8], place: usize) -> Declared
-    ensures { result ≡ arity_of place (number_of s.now) }
+fn arity_of(s: &[u8], place: usize) -> Result<u16, Fault>
+    ensures { reading_of result ≡ arity_of place (number_of s.now) }
 {
-    match number_of(s, 0) {
-        Number::None => Declared::Fault {
-            number: ILL_FORMED,
+    let n = number_of(s, 0).ok_or(Fault {
+        refusal: Refusal::IllFormed,
+        place,
+    })?;
+    if MAX_ARITY < n {
+        return Err(Fault {
+            refusal: Refusal::OutOfRange,
             place,
-        },
-        Number::Value(n) => {
-            if MAX_ARITY < n {
-                return Declared::Fault {
-                    number: OUT_OF_RANGE,
-                    place,
-                };
-            }
-            Declared::Symbol(n as u16)
-        }
+        });
     }
+    Ok(n as u16)
 }
 
-// A name and an arity, behind the tab at `at`.
+// A name's arity, where the name and it stand behind the tab at `at`.
 pub fn symbol_of(
     name: &[u8],
     arity: &[u8],
     at: usize,
     from: usize,
     count: usize,
-    names: &[u8],
-    hashes: &[u32],
-) -> Declared
-    requires { (from + count ≤ max_names) × (length names.now ≡ max_names * name_bytes) × (length hashes.now ≡ max_names) × (at + length name.now < 2 ^ 32) }
-    ensures { Hashed names.now hashes.now from (from + count) → result ≡ symbol_of names.now from count at name.now arity.now }
+    symbols: &SymbolRoom,
+) -> Result<u16, Fault>
+    requires { (from + count ≤ max_names) × (at + length name.now < 2 ^ 32) }
+    ensures { Hashed symbols.now.names symbols.now.hashes from (from + count) → reading_of result ≡ symbol_of symbols.now.names from count at name.now arity.now }
 {
-    if !is_fresh(name, from, count, names, hashes) {
-        return Declared::Fault {
-            number: BAD_NAME,
+    if !is_fresh(name, from, count, symbols) {
+        return Err(Fault {
+            refusal: Refusal::BadName,
             place: at + 1,
-        };
+        });
     }
     arity_of(arity, at + 1 + name.len() + 1)
 }

@@ -4,28 +4,21 @@ ghost use Rattle.declarations.specs.Fields.{FieldsAs};
 
 use text::cut::{TAB, find};
 
-#[derive(Drop)]
-pub enum Fields {
-    Wrong,
-    // the tab between the two
-    Two(usize),
-}
-
-// The fields behind the separator at `from`.
-pub fn two_fields(line: &[u8], from: usize) -> Fields
+// The tab between the fields behind the separator at `from`, if there are two.
+pub fn two_fields(line: &[u8], from: usize) -> Option<usize>
     requires { from ≤ length line.now }
     ensures { FieldsAs line.now from result }
 {
     if line.len() <= from {
-        return Fields::Wrong;
+        return None;
     }
     let middle = find(line, from + 1, TAB);
     if line.len() <= middle {
-        return Fields::Wrong;
+        return None;
     }
     let end = find(line, middle + 1, TAB);
     if end < line.len() {
-        return Fields::Wrong;
+        return None;
     }
-    Fields::Two(middle)
+    Some(middle)
 }

@@ -1,10 +1,16 @@
-// The answer for a line.
+// What a sound line comes to.
 use cells::state::Counts;
 
-#[derive(Drop)]
+// How many words, and how many bytes of names.
+#[derive(Clone, Copy)]
+pub struct Sizes {
+    pub words: usize,
+    pub names: usize,
+}
+
+#[derive(Clone, Copy)]
 pub enum Lined {
-    Fault { number: u16, place: usize },
     More(Counts),
-    // The query was read: how many words, and how many bytes of names.
-    Last { words: usize, names: usize },
+    // The query was read.
+    Last(Sizes),
 }

@@ -3,9 +3,10 @@ use Prim.Native.Nat.{ℕ, zero, suc, ◌+◌, ◌-◌, ◌*◌, ◌^◌, ◌≤�
 use native.Mathlib.Omega.{arith}
 use native.Mathlib.Nat.{pow-le-pow_right}
 use mathlib.Core.Path.{◌≡◌, ap, ◌∙◌}
-use mathlib.Core.List.{List, [], ◌∷◌}
+use mathlib.Core.List.{List, [], ◌∷◌, reverse}
 use lib.ListN.{length, get_or, set, take, drop, length-set, length-drop}
-use lib.Seq.{drop-cons, take_all, get_or-set_same, get_or-set_other}
+use lib.Seq.{take_all, get_or-set_same, get_or-set_other}
+use Rattle.std.proofs.lemmas.List.{get_or-reverse}
 use Rattle.terms.specs.Cells.{variables, enc}
 use Rattle.program.specs.Shapes.{met}
 use Rattle.program.specs.Faults.{mask_of}
@@ -24,18 +25,22 @@ each_drop zero l e = e
 each_drop (suc n) [] e = e
 each_drop (suc n) (a ∷ l) (more p e) = each_drop n l e
 
--- one mode more
-pub mask_next : (modes : List ℕ) (i : ℕ) → 0 < i → i ≤ length modes → mask_of (drop (i - 1) modes) ≡ get_or modes (i - 1) 0 + 2 * mask_of (drop i modes)
-mask_next modes i some most =
-    let e : suc (i - 1) ≡ i = omega arith in
-    ap mask_of (drop-cons modes (i - 1) 0 (omega arith)) ∙ ap (λ (n : ℕ). get_or modes (i - 1) 0 + 2 * mask_of (drop n modes)) e
+each_at : {P : ℕ → Type 0} (l : List ℕ) (i d : ℕ) → Each P l → i < length l → P (get_or l i d)
+each_at [] i d e h = absurd (omega arith)
+each_at (a ∷ l) zero d (more p e) h = p
+each_at (a ∷ l) (suc i) d (more p e) h = each_at l i d e (omega arith)
 
-pub mask_fits : (modes : List ℕ) (i : ℕ) → Each (λ m. m ≤ 1) modes → length modes ≤ variables → mask_of (drop i modes) < 65536
-mask_fits modes i e few =
+-- room for the mask of one mode more
+pub mask_fits : (modes : List ℕ) (i : ℕ) → 0 < i → Each (λ m. m ≤ 1) modes → length modes ≤ variables → 2 * mask_of (drop i modes) + 1 < 65536
+mask_fits modes i some e few =
     let below = mask_below (drop i modes) (each_drop i modes e) in
-    let short : length (drop i modes) ≤ variables = omega (arith, length-drop i modes) in
-    let most : 2 ^ length (drop i modes) ≤ 2 ^ variables = pow-le-pow_right (omega arith) short in
+    let short : length (drop i modes) ≤ 15 = omega (arith, length-drop i modes) in
+    let most : 2 ^ length (drop i modes) ≤ 2 ^ 15 = pow-le-pow_right (omega arith) short in
     omega arith
+
+-- the mode at a place from the last on
+pub mode_fits : (modes : List ℕ) (k m : ℕ) → Each (λ m. m ≤ 1) modes → k < length modes → m ≡ get_or (reverse modes) k m → m ≤ 1
+mode_fits modes k m e h q = rw (q ∙ get_or-reverse modes k m h) (each_at modes (length modes - 1 - k) m e (omega arith))
 
 module _ (words : List ℕ) (at : ℕ) (predicates functions : List ℕ) (a : GoalFrom words at predicates functions) where
   abbrev pub goal_atom_from : AtomFrom words at predicates functions

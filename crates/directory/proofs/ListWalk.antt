@@ -80,23 +80,22 @@ module _ (p : Program) (k : ℕ) (c : Clause) (before : List ℕ) where
   pub later_none : (i : ℕ) → length c.body ≤ i → Later p k c before before i
   later_none i h = record { size = refl; kept = λ x l. refl; later = λ y l l'. absurd (omega arith) }
 
-  module _ (dir : List ℕ) (i i' : ℕ) (e : i ≡ suc i') (w : Later p k c before dir i) (A : Term) (q : Nth c.body i' A)
-      (room : body_list + (first_of p k + i') < length dir) where
-    pub later_mask : (m n : ℕ) → Marks (λ v. In v (c.head ∷ drop i c.body)) m → Marks (λ v. Occ v A) n → Marks (λ v. In v (c.head ∷ drop i' c.body)) (bit_or m n)
-    later_mask m n h a = rw (nth_drop q) (atom_before c.head A (drop (suc i') c.body) m n (rw e at h) a)
+  module _ (dir : List ℕ) (i : ℕ) (w : Later p k c before dir (suc i)) (A : Term) (q : Nth c.body i A) (room : body_list + (first_of p k + i) < length dir) where
+    later_mask : (m n : ℕ) → Marks (λ v. In v (c.head ∷ drop (suc i) c.body)) m → Marks (λ v. Occ v A) n → Marks (λ v. In v (c.head ∷ drop i c.body)) (bit_or m n)
+    later_mask m n h a = rw (nth_drop q) (atom_before c.head A (drop (suc i) c.body) m n h a)
 
     abbrev at : ℕ
-    at = body_list + (first_of p k + i')
+    at = body_list + (first_of p k + i)
 
-    pub later_more : (m : ℕ) → Marks (λ v. In v (c.head ∷ drop i' c.body)) m → Later p k c before (set dir at m) i'
+    later_more : (m : ℕ) → Marks (λ v. In v (c.head ∷ drop i c.body)) m → Later p k c before (set dir at m) i
     later_more m h =
         record {
           size = length-set dir at m ∙ w.size;
           kept = λ x l. get_or-set_other dir at x m 0 (λ z. omega arith) ∙ w.kept x l;
-          later = λ y l l'. by y l l' (ℕ_discrete y i');
+          later = λ y l l'. by y l l' (ℕ_discrete y i);
         }
       where
-        by : (y : ℕ) → i' ≤ y → y < length c.body → Dec (y ≡ i') → Marks (λ v. In v (c.head ∷ drop y c.body)) (get_or (set dir at m) (body_list + (first_of p k + y)) 0)
+        by : (y : ℕ) → i ≤ y → y < length c.body → Dec (y ≡ i) → Marks (λ v. In v (c.head ∷ drop y c.body)) (get_or (set dir at m) (body_list + (first_of p k + y)) 0)
         by y l l' (yes same) = rw (same, get_or-set_same dir at m 0 room) h
         by y l l' (no other) = rw (get_or-set_other dir at (body_list + (first_of p k + y)) m 0 (λ z. omega arith)) (w.later y (omega arith) l')
 
@@ -132,17 +131,29 @@ module _ (p : Program) (k : ℕ) (c : Clause) (before : List ℕ) where
         by y l (yes same) = rw (same, get_or-set_same dir place (bit_and (get_or dir place 0) m) 0 room) both
         by y l (no other) = rw (get_or-set_other dir place (body_list + (first_of p k + y)) (bit_and (get_or dir place 0) m) 0 (λ z. omega arith)) (w.listed y (omega arith))
 
--- the same under the number that the code has for the first body atom
-module _ (p : Program) (k : ℕ) (c : Clause) (at-k : Nth p.clauses k c) (before dir : List ℕ) (i : ℕ) (w : ListedFrom p k c before dir i) (less : i < length c.body)
-    (first : ℕ) (e : first ≡ first_of p k) (room : body_list + (first + i) < length dir) (m : ℕ) (h : Marks (λ v. In v (c.head ∷ take i c.body)) m) where
-  pub listed_step : ListedFrom p k c before (set dir (body_list + (first + i)) (bit_and (get_or dir (body_list + (first + i)) 0) m)) (i + 1)
-  listed_step = let (A, q) = below_nth c.body i less in rw e (listed_more p k c before dir i w A q (rw e at room) m h)
+-- the same under the number that the code has for the body atom
+module _ (p : Program) (k : ℕ) (c : Clause) (at-k : Nth p.clauses k c) (before dir : List ℕ) (j i : ℕ) (e : j ≡ first_of p k + i) (less : i < length c.body)
+    (room : body_list + j < length dir) (m : ℕ) where
+  module _ (w : Later p k c before dir (suc i)) (h : Marks (λ v. In v (c.head ∷ drop (suc i) c.body)) m) (n : ℕ)
+      (f : (A : Term) → Nth (bodies p.clauses) j A → Marks (λ v. Occ v A) n) where
+    pub later_mark : Marks (λ v. In v (c.head ∷ drop i c.body)) (bit_or m n)
+    later_mark =
+        let (A, q) = below_nth c.body i less in
+        later_mask p k c before dir i w A q (rw e at room) m n h (f A (rw e (body_number p at-k q)))
 
-  pub before_step : (n : ℕ) → ((A : Term) → Nth (bodies p.clauses) (first + i) A → Marks (λ v. Occ v A) n)
-      → Marks (λ v. In v (c.head ∷ take (i + 1) c.body)) (bit_or m n)
-  before_step n f =
-      let (A, q) = below_nth c.body i less in
-      before_mask p k c before dir i w A q (rw e at room) m h n (f A (rw e (body_number p at-k q)))
+    pub later_step : Later p k c before (set dir (body_list + j) (bit_or m n)) i
+    later_step =
+        let (A, q) = below_nth c.body i less in
+        rw e (later_more p k c before dir i w A q (rw e at room) (bit_or m n) later_mark)
+
+  module _ (w : ListedFrom p k c before dir i) (h : Marks (λ v. In v (c.head ∷ take i c.body)) m) where
+    pub listed_step : ListedFrom p k c before (set dir (body_list + j) (bit_and (get_or dir (body_list + j) 0) m)) (i + 1)
+    listed_step = let (A, q) = below_nth c.body i less in rw e (listed_more p k c before dir i w A q (rw e at room) m h)
+
+    pub before_step : (n : ℕ) → ((A : Term) → Nth (bodies p.clauses) j A → Marks (λ v. Occ v A) n) → Marks (λ v. In v (c.head ∷ take (i + 1) c.body)) (bit_or m n)
+    before_step n f =
+        let (A, q) = below_nth c.body i less in
+        before_mask p k c before dir i w A q (rw e at room) m h n (f A (rw e (body_number p at-k q)))
 
 -- the lists of one clause more
 module _ (p : Program) (k : ℕ) (c : Clause) (at-k : Nth p.clauses k c) (before d₀ d₁ d₂ : List ℕ) (w : Lists p before d₀ k) (l : Later p k c d₀ d₁ 0)

@@ -3,7 +3,7 @@ ghost use Rattle.std.specs.Prelude.{◌≡◌, [], ℕ, ◌+◌, ◌<◌, ◌≤
 ghost use Rattle.terms.specs.Walk.{Cells};
 ghost use Rattle.directory.specs.Numbers.{met_cells, Numbered, renamed, number_in, IsInTable, Renumbered};
 
-use terms::walk::{FIRST_VARIABLE, narrow, wide};
+use terms::walk::{FIRST_VARIABLE, narrow};
 
 // Numbers the variables of a run by first appearance: the table gets 1 + the number of each. How many there are.
 pub fn numbers(run: &[u16], table: &mut [u16; 16]) -> usize
@@ -11,17 +11,14 @@ pub fn numbers(run: &[u16], table: &mut [u16; 16]) -> usize
     ensures { Numbered (met_cells [] run.now) table.new result }
 {
     let mut n = 0;
-    let mut i = 0;
-    while i < run.len() {
-        let cell = run[i];
+    for &cell in run {
         if FIRST_VARIABLE <= cell {
-            let v = wide(cell - FIRST_VARIABLE);
+            let v = usize::from(cell - FIRST_VARIABLE);
             if table[v] == 0 {
                 n += 1;
                 table[v] = narrow(n);
             }
         }
-        i += 1;
     }
     n
 }
@@ -34,7 +31,7 @@ fn renamed(cell: u16, table: &[u16; 16]) -> u16
     if cell < FIRST_VARIABLE {
         return cell;
     }
-    let v = wide(cell - FIRST_VARIABLE);
+    let v = usize::from(cell - FIRST_VARIABLE);
     FIRST_VARIABLE + (table[v] - 1)
 }
 
@@ -43,9 +40,7 @@ pub fn renumber(run: &[u16], table: &[u16; 16], dir: &mut [u16], to: usize)
     requires { ((i : ℕ) → i < length run.now → IsInTable table.now (get_or run.now i 0)) × (to + length run.now ≤ length dir.old) }
     ensures { Renumbered run.now table.now dir.old dir.new to (length run.now) }
 {
-    let mut i = 0;
-    while i < run.len() {
-        dir[to + i] = renamed(run[i], table);
-        i += 1;
+    for (i, &cell) in run.iter().enumerate() {
+        dir[to + i] = renamed(cell, table);
     }
 }

@@ -3,6 +3,7 @@ use Prim.Native.Nat.{ℕ, ◌+◌, ◌≤◌, ◌<◌}
 use mathlib.Core.Path.{◌≡◌, refl, subst}
 use mathlib.Core.List.{List}
 use lib.ListN.{length, get_or}
+use Rattle.std.specs.Prelude.{Option, Some, None}
 use Rattle.terms.specs.Cells.{variables}
 use Rattle.terms.specs.Mask.{Marks}
 use Rattle.terms.proofs.Masks.{marks_for}
@@ -25,10 +26,12 @@ use Rattle.calling.specs.Calls.{OpenedBy, Emits, EmitAsked}
 use Rattle.solving.specs.Solving.{ToShape, SetsAsked, SolvedAt}
 use Rattle.solving.proofs.SolveShape.{to_stays, found_stays}
 use Rattle.solving.proofs.SolveSets.{stepped_on}
-use Rattle.ends.specs.AtHead.{AtShape, ShapeGives}
+use Rattle.ends.specs.declared.heads.Opening.{Opening}
+use Rattle.ends.specs.declared.heads.Head.{Head}
+use Rattle.ends.specs.AtHead.{FirstAtom, NoAtom, OpensAt, AtShape, ShapeGives}
 
-module _ {dir order table sets known found : List ℕ} {count since rows s newest there first end known-marks marks : ℕ}
-    (a : AtShape dir order table sets known found count since rows s newest there first end known-marks marks) where
+module _ {dir table sets known found : List ℕ} {head : Head} {since rows s newest known-marks marks : ℕ}
+    (a : AtShape dir table sets known found head since rows s newest known-marks marks) where
   shape_entry : ShapeAt (shapes a.p) dir a.S s
   shape_entry = a.setting.directory.shape a.nth_shape
 
@@ -42,9 +45,10 @@ module _ {dir order table sets known found : List ℕ} {count since rows s newes
   here_variables {here} (l, m) = record { small = l; marked = marks_for here (λ v. ((shape_entry.shape_variables v).1, (shape_entry.shape_variables v).0)) m }
 
   -- the clause has a body
-  abbrev pub emit_asked : {here : ℕ} → VariablesOf a.S here → first < end → EmitAsked dir order table sets count newest here there since rows first
-  emit_asked h some =
-      let f = a.first_atom some in
+  abbrev pub emit_asked : {here : ℕ} {opening : Opening} → VariablesOf a.S here → head.opening ≡ Some opening
+      → EmitAsked dir opening.order.variables table sets opening.order.count newest here head.there since rows opening.atom
+  emit_asked {opening = opening} h some =
+      let f : FirstAtom a.p a.k a.c opening.atom opening.order.variables opening.order.count = subst (λ (o : Option Opening). OpensAt a.p a.k a.c o) some a.opens in
       record {
         place =
             record {
@@ -103,15 +107,18 @@ module _ {dir order table sets known found : List ℕ} {count since rows s newes
     Opened n' table' buckets' = Grew (Given a.p (keys_of table rows)) round room n table buckets (Emits a.p a.k 0 (OpenedBy a.p table since rows a.k s)) n' table' buckets'
 
     -- the clause has no body
-    pub opened_none : Writable table buckets n room → end ≤ first → Opened n table buckets
+    pub opened_none : Writable table buckets n room → head.opening ≡ None → Opened n table buckets
     opened_none writable none = grew_none (Given a.p (keys_of table rows)) round room n table buckets _ writable (λ key (N, o, (row, e, is)). absurd (no_row e))
       where
+        no_atom : NoAtom a.c
+        no_atom = subst (λ (o : Option Opening). OpensAt a.p a.k a.c o) none a.opens
+
         no_row : {N : ℕ} {row : Row ℕ} → Emitted a.p a.k 0 N row → ⊥
-        no_row (emitted_call {A = A} hc hA r) = a.no_atom none A (subst (λ (d : Clause). Nth d.body 0 A) (nth_same hc a.nth_clause) hA)
-        no_row (emitted_cont {A = A} hc hA r) = a.no_atom none A (subst (λ (d : Clause). Nth d.body 0 A) (nth_same hc a.nth_clause) hA)
+        no_row (emitted_call {A = A} hc hA r) = no_atom A (subst (λ (d : Clause). Nth d.body 0 A) (nth_same hc a.nth_clause) hA)
+        no_row (emitted_cont {A = A} hc hA r) = no_atom A (subst (λ (d : Clause). Nth d.body 0 A) (nth_same hc a.nth_clause) hA)
 
     module _ (behind : rows ≤ n) {n' : ℕ} {table' buckets' : List ℕ} (g : Opened n' table' buckets') where
-      abbrev pub sets_asked : {slot here : ℕ} → slot ≡ first_solution + s → VariablesOf a.S here → SetsAsked table' sets known found since rows newest slot here there known-marks marks
+      abbrev pub sets_asked : {slot here : ℕ} → slot ≡ first_solution + s → VariablesOf a.S here → SetsAsked table' sets known found since rows newest slot here head.there known-marks marks
       sets_asked e h =
           record {
             to = to_stays (to_shape e) table' n behind g.same_rows g.same_length;

@@ -30,6 +30,7 @@ use Rattle.steps.proofs.Emitting.{goes_emitted}
 use Rattle.calling.proofs.ShapeVisits.{head_predicate, head_declared, first_link}
 use Rattle.solving.proofs.SolveShape.{found_stays}
 use Rattle.solving.proofs.SolveSets.{stepped_on}
+use Rattle.ends.specs.declared.heads.Head.{Head}
 use Rattle.ends.specs.AtHead.{ClauseAsked, HeadKnown, OfShape, ShapeGives, AtHead, HeadGives}
 use Rattle.ends.proofs.ClauseRows.{stands_on}
 
@@ -54,8 +55,7 @@ module _ {words dir table₀ heads known found : List ℕ} {since old k known-ma
   predicate = predicate_of c.head
 
   -- the head's first word is its predicate
-  pub start_in_words : {order : List ℕ} {start cells there first end count : ℕ} → HeadKnown words p k c order start cells there first end count
-      → (start < length words) × (get_or words start 0 < 64)
+  pub start_in_words : {head : Head} → HeadKnown words p k c head → (head.at.start < length words) × (get_or words head.at.start 0 < 64)
   start_in_words h =
       let (is, within) = head_predicate a.head.situation.setting hc h.stands in
       let declared = head_declared a.head.situation.setting hc in
@@ -68,18 +68,18 @@ module _ {words dir table₀ heads known found : List ℕ} {since old k known-ma
   abbrev Below : ℕ → ℕ → Type 0
   Below upto key = (s : ℕ) × (S : Term) × Nth (shapes p) s S × (predicate_of S ≡ predicate) × (s < upto) × Gives s key
 
-  module _ (round room n : ℕ) (buckets₀ order : List ℕ) (start cells there first end count from : ℕ) where
+  module _ (round room n : ℕ) (buckets₀ : List ℕ) (head : Head) (from : ℕ) where
     -- the head and the first body atom are known; call rows before row `from` are passed by; what the shapes before the link give is there
     pub record Along (link rows : ℕ) (table buckets : List ℕ) : Type 0 where
-      pub head_known : HeadKnown words p k c order start cells there first end count
+      pub head_known : HeadKnown words p k c head
       pub from_new : from ≤ since
       pub from_all : 0 < marks → from ≡ 0
       pub upto : ℕ
       pub links : Link (shapes p) predicate upto link
       pub grew : Grew (Given p (keys_of table₀ old)) round room n table₀ buckets₀ (Below upto) rows table buckets
 
-    pub along_begins : {link : ℕ} → Writable table₀ buckets₀ n room → HeadKnown words p k c order start cells there first end count
-        → (from ≤ since) × (0 < marks → from ≡ 0) → link ≡ get_or dir (predicate_shape + get_or words start 0) 0 → Along link n table₀ buckets₀
+    pub along_begins : {link : ℕ} → Writable table₀ buckets₀ n room → HeadKnown words p k c head
+        → (from ≤ since) × (0 < marks → from ≡ 0) → link ≡ get_or dir (predicate_shape + get_or words head.at.start 0) 0 → Along link n table₀ buckets₀
     along_begins writable known-head (new, all) g =
         record {
           head_known = known-head;
@@ -126,7 +126,7 @@ module _ {words dir table₀ heads known found : List ℕ} {since old k known-ma
           pub along_behind : old ≤ rows
           along_behind = omega (arith, v.grew.more)
 
-          abbrev pub along_shape : OfShape words dir order table heads known found start cells there first end count since old s from known-marks marks
+          abbrev pub along_shape : OfShape words dir table heads known found head since old s from known-marks marks
           along_shape =
               record {
                 k = k;
@@ -144,7 +144,7 @@ module _ {words dir table₀ heads known found : List ℕ} {since old k known-ma
               }
 
           module _ {r : ℕ} {table' buckets' : List ℕ}
-              (step : (o : OfShape words dir order table heads known found start cells there first end count since old s from known-marks marks)
+              (step : (o : OfShape words dir table heads known found head since old s from known-marks marks)
               → Stepped (Given o.at_head.head.situation.p (keys_of table old)) round room rows table buckets
               (ShapeGives o.at_head.head.situation.p (keys_of table since) (keys_of table old) o.k known found s) r table' buckets') where
             both : Stepped (Given p (keys_of table₀ old)) round room n table₀ buckets₀ (λ key. Below v.upto key ⊎ Gives s key) r table' buckets'

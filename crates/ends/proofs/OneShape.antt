@@ -20,10 +20,11 @@ use Rattle.steps.proofs.Bodies.{head_is_atom}
 use Rattle.steps.proofs.ShapeLinks.{shape_below}
 use Rattle.steps.proofs.Stepping.{grew_none}
 use Rattle.solving.proofs.SolveLaws.{none_late}
+use Rattle.ends.specs.declared.heads.Head.{Head}
 use Rattle.ends.specs.AtHead.{AtShape, OfShape, ShapeGives}
 
-module _ {words dir order table heads known found : List ℕ} {start cells there first end count since rows s from known-marks marks : ℕ}
-    (w : OfShape words dir order table heads known found start cells there first end count since rows s from known-marks marks) where
+module _ {words dir table heads known found : List ℕ} {head : Head} {since rows s from known-marks marks : ℕ}
+    (w : OfShape words dir table heads known found head since rows s from known-marks marks) where
   abbrev p : Program
   p = w.at_head.head.situation.p
 
@@ -42,7 +43,7 @@ module _ {words dir order table heads known found : List ℕ} {start cells there
   pub shape_in_heads : s < length heads
   shape_in_heads = omega (arith, shape_few, w.at_head.head.situation.chains.all_heads)
 
-  abbrev pub shape_meets : Meeting words dir s start cells
+  abbrev pub shape_meets : Meeting words dir s head.at.start head.at.cells
   shape_meets =
       record {
         p = p;
@@ -55,7 +56,7 @@ module _ {words dir order table heads known found : List ℕ} {start cells there
       }
 
   abbrev pub shape_met : {sets : List ℕ} {newest : ℕ} → newest ≡ get_or heads s 0 → Unifying w.S c.head sets
-      → AtShape dir order table sets known found count since rows s newest there first end known-marks marks
+      → AtShape dir table sets known found head since rows s newest known-marks marks
   shape_met e u =
       record {
         words = words;
@@ -71,8 +72,7 @@ module _ {words dir order table heads known found : List ℕ} {start cells there
         newest_is = e;
         unifying = u;
         head_variables = w.head_known.head_variables;
-        first_atom = w.head_known.first_atom;
-        no_atom = w.head_known.no_atom;
+        opens = w.head_known.opens;
         known_on = w.at_head.known_on;
         found_on = w.at_head.found_on;
       }

@@ -1,5 +1,5 @@
 -- The head of a clause and the shapes of the calls to it: what is asked for one shape and for all, and what they must give.
-use Rattle.std.specs.Prelude.{ℕ, ◌≤◌, ◌<◌, ◌≡◌, ◌⊎◌, List, [], length, get_or}
+use Rattle.std.specs.Prelude.{ℕ, ◌≤◌, ◌<◌, ◌≡◌, ◌⊎◌, List, [], length, get_or, Option, Some, None}
 use Rattle.terms.specs.Term.{Term}
 use Rattle.marks.specs.Modes.{modes, InOrder}
 use Rattle.marks.specs.Passing.{VariablesOf}
@@ -16,6 +16,8 @@ use Rattle.steps.specs.Situation.{Setting, Chains, Unifying, HeadAsked}
 use Rattle.steps.specs.Heads.{Solved, FoundOn}
 use Rattle.calling.specs.Calls.{Emits}
 use Rattle.solving.specs.Solving.{SolvedAt}
+use Rattle.ends.specs.declared.heads.Opening.{Opening}
+use Rattle.ends.specs.declared.heads.Head.{Head}
 
 -- body atom j of the program is the first of clause k, and has its variables by first appearance in `order`
 pub record FirstAtom (p : Program) (k : ℕ) (c : Clause) (j : ℕ) (order : List ℕ) (count : ℕ) : Type 0 where
@@ -28,6 +30,11 @@ pub record FirstAtom (p : Program) (k : ℕ) (c : Clause) (j : ℕ) (order : Lis
 abbrev pub NoAtom : Clause → Type 0
 NoAtom c = (A : Term) → Nth c.body 0 A → ⊥
 
+-- the first body atom of clause k, where there is one
+abbrev pub OpensAt : Program → ℕ → Clause → Option Opening → Type 0
+OpensAt p k c None = NoAtom c
+OpensAt p k c (Some opening) = FirstAtom p k c opening.atom opening.order.variables opening.order.count
+
 -- clause k stands in the directory
 pub record ClauseAsked (words dir : List ℕ) (k : ℕ) : Type 0 where
   pub p : Program
@@ -35,15 +42,14 @@ pub record ClauseAsked (words dir : List ℕ) (k : ℕ) : Type 0 where
   pub c : Clause
   pub nth_clause : Nth p.clauses k c
 
--- its head stands at so many words from the start on and has the variables `there`; its body atoms are first..end
-pub record HeadKnown (words : List ℕ) (p : Program) (k : ℕ) (c : Clause) (order : List ℕ) (start cells there first end count : ℕ) : Type 0 where
-  pub stands : StandsAt words c.head start cells
-  pub head_variables : VariablesOf c.head there
-  pub first_atom : first < end → FirstAtom p k c first order count
-  pub no_atom : end ≤ first → NoAtom c
+-- where its head stands, the variables of it, and its first body atom
+pub record HeadKnown (words : List ℕ) (p : Program) (k : ℕ) (c : Clause) (head : Head) : Type 0 where
+  pub stands : StandsAt words c.head head.at.start head.at.cells
+  pub head_variables : VariablesOf c.head head.there
+  pub opens : OpensAt p k c head.opening
 
--- shape s, which unifies with the head of clause k; the clause's body atoms are first..end
-pub record AtShape (dir order table sets known found : List ℕ) (count since rows s newest there first end known-marks marks : ℕ) : Type 0 where
+-- shape s, which unifies with the head of clause k
+pub record AtShape (dir table sets known found : List ℕ) (head : Head) (since rows s newest known-marks marks : ℕ) : Type 0 where
   pub words : List ℕ
   pub heads : List ℕ
   pub p : Program
@@ -56,9 +62,8 @@ pub record AtShape (dir order table sets known found : List ℕ) (count since ro
   pub nth_shape : Nth (shapes p) s S
   pub newest_is : newest ≡ get_or heads s 0
   pub unifying : Unifying S c.head sets
-  pub head_variables : VariablesOf c.head there
-  pub first_atom : first < end → FirstAtom p k c first order count
-  pub no_atom : end ≤ first → NoAtom c
+  pub head_variables : VariablesOf c.head head.there
+  pub opens : OpensAt p k c head.opening
   pub known_on : FoundOn p table rows k (length c.body) known known-marks
   pub found_on : FoundOn p table rows k (length c.body) found marks
 
@@ -74,10 +79,10 @@ pub record AtHead (words dir table heads known found : List ℕ) (since rows k k
   pub found_on : FoundOn head.situation.p table rows k (length head.clause.c.body) found marks
 
 -- shape s, with the head of clause k: call rows before row `from` are passed by, and none are where there are marks for all
-pub record OfShape (words dir order table heads known found : List ℕ) (start cells there first end count since rows s from known-marks marks : ℕ) : Type 0 where
+pub record OfShape (words dir table heads known found : List ℕ) (head : Head) (since rows s from known-marks marks : ℕ) : Type 0 where
   pub k : ℕ
   pub at_head : AtHead words dir table heads known found since rows k known-marks marks
-  pub head_known : HeadKnown words at_head.head.situation.p k at_head.head.clause.c order start cells there first end count
+  pub head_known : HeadKnown words at_head.head.situation.p k at_head.head.clause.c head
   pub S : Term
   pub nth_shape : Nth (shapes at_head.head.situation.p) s S
   pub from_new : from ≤ since

@@ -8,16 +8,16 @@ ghost use Rattle.steps.specs.Unifiers.{HeadNotes};
 ghost use Rattle.joining.specs.KeptAnswers.{KeepsAnswers};
 
 use calling::calls::mark_head;
+use directory::encoded::Encoded;
 use directory::layout::{CLAUSE_FIRST, CLAUSE_VARS};
 use joining::joins::last_place;
 use steps::meet::first_variables;
-use terms::walk::wide;
 
 // Marks on the head of clause k that result from rows since `since`, into the set, which is empty at first. Says whether there can be any. A clause without
 // a body notes what comes of shapes and its head.
-pub fn head_marks<'a>(
-    words: &'a [u16],
-    dir: &'a [u16],
+#[tactic(auto, using(calling::proofs::ShapeVisits::clause_in_dir))]
+pub fn head_marks(
+    program: &Encoded,
     table: &[u16],
     heads: &[u16],
     answers: &mut [u16],
@@ -28,24 +28,23 @@ pub fn head_marks<'a>(
     answered: &mut [u16],
     unifiers: &mut [u8],
 ) -> bool
-    requires { HeadAsked words.now dir.now table.now heads.now since before k × (found.old ≡ replicate set_words 0)
-        × (length answers.old ≡ max_rows) × KeepsAnswers words.now dir.now table.now answered.old before
-        × HeadNotes words.now dir.now k unifiers.old }
-    ensures { KeepsAnswers words.now dir.now table.now answered.new before
-        × ((w : HeadAsked words.now dir.now table.now heads.now since before k)
+    requires { HeadAsked program.now.words.now program.now.dir.now table.now heads.now since before k × (found.old ≡ replicate set_words 0)
+        × (length answers.old ≡ max_rows) × KeepsAnswers program.now.words.now program.now.dir.now table.now answered.old before
+        × HeadNotes program.now.words.now program.now.dir.now k unifiers.old }
+    ensures { KeepsAnswers program.now.words.now program.now.dir.now table.now answered.new before
+        × ((w : HeadAsked program.now.words.now program.now.dir.now table.now heads.now since before k)
         → Collected (HeadMark w.situation.p table.now since before k (length w.clause.c.body)) found.old found.new
         × Told (HeadMark w.situation.p table.now since before k (length w.clause.c.body)) result)
-        × HeadNotes words.now dir.now k unifiers.new }
+        × HeadNotes program.now.words.now program.now.dir.now k unifiers.new }
 {
-    let first = wide(dir[CLAUSE_FIRST + k]);
-    let end = wide(dir[CLAUSE_FIRST + k + 1]);
+    let first = usize::from(program.dir[CLAUSE_FIRST + k]);
+    let end = usize::from(program.dir[CLAUSE_FIRST + k + 1]);
     if first == end {
-        return mark_head(words, dir, table, heads, since, k, found, before, unifiers);
+        return mark_head(program, table, heads, since, k, found, before, unifiers);
     }
-    let there = first_variables(wide(dir[CLAUSE_VARS + k]));
+    let there = first_variables(usize::from(program.dir[CLAUSE_VARS + k]));
     last_place(
-        words,
-        dir,
+        program,
         table,
         heads,
         answers,

@@ -4,28 +4,25 @@ use native.Mathlib.Omega.{arith}
 use native.Mathlib.Decide.{dec_lt, ℕ_discrete}
 use mathlib.Core.Path.{◌≡◌, refl, sym, ◌∙◌}
 use mathlib.Core.Logic.{◌⊎◌, inl, inr, ⊎_elim}
-use mathlib.Core.List.Memᴰ
 use mathlib.Core.List.{List, [], ◌∷◌, Memᴰ}
-use lib.ListN.{length, take, get_or, set, length-set, replicate, length-replicate, get_or-replicate}
-use lib.Seq.{take-nil, get_or-set_same, get_or-set_other, ext_get_or}
+use lib.ListN.{length, get_or, set, length-set, replicate, length-replicate, get_or-replicate}
+use lib.Seq.{get_or-set_same, get_or-set_other, ext_get_or}
 use Rattle.terms.specs.Mask.{Has}
 use Rattle.terms.proofs.Masks.{has_none, has_below, same_marks}
 use Rattle.program.specs.Limits.{masks}
 use Rattle.rows.specs.MaskSet.{set_words, InSet}
-use Rattle.joining.specs.Answers.{Listing}
+use Rattle.joining.specs.Answers.{SetOf}
 
--- a member of the first n has its place
-pub member_at : (l : List ℕ) (n q : ℕ) → Memᴰ q (take n l) → (k : ℕ) × (k < n) × (get_or l k 0 ≡ q)
-member_at [] n q m = absurd (Memᴰ.not-nil (rw (take-nil {A = ℕ} n) at m))
-member_at (a ∷ l) zero q m = elim m [ ]
-member_at (a ∷ l) (suc n) q (Memᴰ.head e) = (0, omega arith, sym e)
-member_at (a ∷ l) (suc n) q (Memᴰ.tail m) = let (k, h, e) = member_at l n q m in (suc k, omega arith, e)
+-- a member has its place
+pub member_at : (l : List ℕ) (q : ℕ) → Memᴰ q l → (k : ℕ) × (k < length l) × (get_or l k 0 ≡ q)
+member_at [] q m = elim m [ ]
+member_at (a ∷ l) q (Memᴰ.head e) = (0, omega arith, sym e)
+member_at (a ∷ l) q (Memᴰ.tail m) = let (k, h, e) = member_at l q m in (suc k, omega arith, e)
 
-pub at_member : (l : List ℕ) (n k : ℕ) → k < n → k < length l → Memᴰ (get_or l k 0) (take n l)
-at_member [] n k h g = absurd (omega arith)
-at_member (a ∷ l) zero k h g = absurd (omega arith)
-at_member (a ∷ l) (suc n) zero h g = Memᴰ.head refl
-at_member (a ∷ l) (suc n) (suc k) h g = Memᴰ.tail (at_member l n k (omega arith) (omega arith))
+pub at_member : (l : List ℕ) (k : ℕ) → k < length l → Memᴰ (get_or l k 0) l
+at_member [] k h = absurd (omega arith)
+at_member (a ∷ l) zero h = Memᴰ.head refl
+at_member (a ∷ l) (suc k) h = Memᴰ.tail (at_member l k (omega arith))
 
 -- the words of the first i answers are cleared, the others are as they were
 pub record Forgotten (seen answers : List ℕ) (i : ℕ) (seen' : List ℕ) : Type 0 where
@@ -37,12 +34,9 @@ module _ (seen answers : List ℕ) where
   pub forgotten_none : Forgotten seen answers 0 seen
   forgotten_none = record { size = refl; cleared = λ k h. absurd (omega arith); kept = λ v. inr refl }
 
-  module _ (count : ℕ) (listing : Listing seen answers count) (i : ℕ) (h : i < count) where
-    pub answer_there : i < length answers
-    answer_there = omega (arith, listing.within, listing.list_size)
-
+  module _ (set_of : SetOf seen answers) (i : ℕ) (h : i < length answers) where
     pub word_there : get_or answers i 0 / 16 < set_words
-    word_there = let s = listing.small (get_or answers i 0) (at_member answers count i h answer_there) in omega arith
+    word_there = let s = set_of.small (get_or answers i 0) (at_member answers i h) in omega arith
 
     pub forgotten_one : (seen' : List ℕ) → Forgotten seen answers i seen' → Forgotten seen answers (i + 1) (set seen' (get_or answers i 0 / 16) 0)
     forgotten_one seen' f =
@@ -53,7 +47,7 @@ module _ (seen answers : List ℕ) where
         }
       where
         within : get_or answers i 0 / 16 < length seen'
-        within = omega (arith, word_there, f.size, listing.set_size)
+        within = omega (arith, word_there, f.size, set_of.set_size)
 
         at : (k : ℕ) → k < i + 1 → Dec (get_or answers k 0 / 16 ≡ get_or answers i 0 / 16) → Dec (k < i)
             → get_or (set seen' (get_or answers i 0 / 16) 0) (get_or answers k 0 / 16) 0 ≡ 0
@@ -67,11 +61,11 @@ module _ (seen answers : List ℕ) where
         word v (no n) = rw (get_or-set_other seen' (get_or answers i 0 / 16) v 0 0 n) (f.kept v)
 
   -- a set whose members are all forgotten is empty: its words are 0
-  pub forgotten_all : (count : ℕ) → Listing seen answers count → (i : ℕ) → count ≤ i → ((v : ℕ) → get_or seen v 0 < masks) → (seen' : List ℕ) → Forgotten seen answers i seen'
+  pub forgotten_all : SetOf seen answers → (i : ℕ) → length answers ≤ i → ((v : ℕ) → get_or seen v 0 < masks) → (seen' : List ℕ) → Forgotten seen answers i seen'
       → seen' ≡ replicate set_words 0
-  forgotten_all count listing i done small seen' f =
-      ext_get_or 0 seen' (replicate set_words 0) (f.size ∙ listing.set_size ∙ sym (length-replicate {A = ℕ} set_words 0))
-      (λ v l. zero_word v (omega (arith, f.size, listing.set_size)) ∙ sym (get_or-replicate {A = ℕ} set_words v 0 0 (omega (arith, f.size, listing.set_size))))
+  forgotten_all set_of i done small seen' f =
+      ext_get_or 0 seen' (replicate set_words 0) (f.size ∙ set_of.set_size ∙ sym (length-replicate {A = ℕ} set_words 0))
+      (λ v l. zero_word v (omega (arith, f.size, set_of.set_size)) ∙ sym (get_or-replicate {A = ℕ} set_words v 0 0 (omega (arith, f.size, set_of.set_size))))
     where
       none : (v : ℕ) → v < set_words → get_or seen' v 0 ≡ get_or seen v 0 → (b : ℕ) → Has (get_or seen' v 0) b → ⊥
       none v l e b h =
@@ -80,7 +74,7 @@ module _ (seen answers : List ℕ) where
           let d : (v * 16 + b) / 16 ≡ v = omega arith in
           let m : (v * 16 + b) % 16 ≡ b = omega arith in
           let there : InSet seen (v * 16 + b) = rw (d, m) h' in
-          let (k, below, is) = member_at answers count (v * 16 + b) ((listing.same (v * 16 + b) (omega arith)).0 there) in
+          let (k, below, is) = member_at answers (v * 16 + b) ((set_of.same (v * 16 + b) (omega arith)).0 there) in
           let z : get_or seen' v 0 ≡ 0 = rw (is, d) at (f.cleared k (omega arith)) in
           has_none b (rw z at h)
 

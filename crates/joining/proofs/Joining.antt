@@ -16,47 +16,52 @@ use Rattle.rows.specs.Rows.{slot_at, mask_at, before_at}
 use Rattle.rows.specs.Chains.{Latest}
 use Rattle.table.specs.RoundKeys.{Keyed}
 use Rattle.steps.specs.Steps.{Given, Grew, Stepped, Emitted}
-use Rattle.joining.specs.Joined.{JoinedWith, Due, ContMarks, RowsOf, KeptOf, SlotChain}
+use Rattle.joining.specs.Joined.{JoinedWith, Due, ContMarks, RowsOf, KeptOf, Among, SlotChain}
 use Rattle.steps.proofs.Stepping.{stepped_then, stepped_must}
 
 -- the marks joined with no answer, and with one more
-pub joined_none : (M : ℕ) (answers : List ℕ) (N : ℕ) → JoinedWith M answers 0 N → ⊥
+pub joined_none : (M : ℕ) (answers : List ℕ) (N : ℕ) → JoinedWith M (take 0 answers) N → ⊥
 joined_none M answers N (q, m, t) = mathlib.Core.List.Memᴰ.not-nil m
 
 module _ (M : ℕ) (answers : List ℕ) (x N : ℕ) (less : x < length answers) (joined : Together M (get_or answers x 0) N) where
-  pub joined_more : (N' : ℕ) → JoinedWith M answers (x + 1) N' ↔ (JoinedWith M answers x N' ⊎ (N' ≡ N))
+  pub joined_more : (N' : ℕ) → JoinedWith M (take (x + 1) answers) N' ↔ (JoinedWith M (take x answers) N' ⊎ (N' ≡ N))
   joined_more N' = (to, from)
     where
       parts : take (x + 1) answers ≡ take x answers ++ (get_or answers x 0 ∷ [])
       parts = rw add-one (take-suc answers x 0 less)
 
-      to : JoinedWith M answers (x + 1) N' → JoinedWith M answers x N' ⊎ (N' ≡ N)
+      to : JoinedWith M (take (x + 1) answers) N' → JoinedWith M (take x answers) N' ⊎ (N' ≡ N)
       to (q, m, t) =
           ⊎_elim
           (λ l. inl (q, l, t))
           (λ e. inr (together_unique M (get_or answers x 0) N' N (subst (λ (a : ℕ). Together M a N') (mathlib.Core.List.Memᴰ.eq_of_singleton e) t) joined))
           (mathlib.Core.List.Memᴰ.append_cases (take x answers) (subst (Memᴰ q) parts m))
 
-      from : JoinedWith M answers x N' ⊎ (N' ≡ N) → JoinedWith M answers (x + 1) N'
+      from : JoinedWith M (take x answers) N' ⊎ (N' ≡ N) → JoinedWith M (take (x + 1) answers) N'
       from (inl (q, m, t)) = (q, subst (Memᴰ q) (sym parts) (mathlib.Core.List.Memᴰ.append_left _ m), t)
       from (inr e) = (get_or answers x 0, subst (Memᴰ (get_or answers x 0)) (sym parts) (mathlib.Core.List.Memᴰ.append_right (take x answers) (mathlib.Core.List.Memᴰ.head refl)), rw e joined)
 
--- fewer answers are among more
-pub joined_fewer : (M : ℕ) (answers : List ℕ) (fresh all N : ℕ) → fresh ≤ all → JoinedWith M answers fresh N → JoinedWith M answers all N
-joined_fewer M answers fresh all N few (q, m, t) =
-    let part : Memᴰ q (take fresh (take all answers)) = rw (take-take fresh all answers few) m in
-    (q, subst (Memᴰ q) (take-append-drop fresh (take all answers)) (mathlib.Core.List.Memᴰ.append_left (drop fresh (take all answers)) part), t)
+-- the first of the answers are among them
+pub first_among : (x : ℕ) (answers : List ℕ) → Among (take x answers) answers
+first_among x answers q m = subst (Memᴰ q) (take-append-drop x answers) (mathlib.Core.List.Memᴰ.append_left (drop x answers) m)
+
+-- and the first of them among more
+pub fewer_among : (fresh all : ℕ) (answers : List ℕ) → fresh ≤ all → Among (take fresh answers) (take all answers)
+fewer_among fresh all answers few = subst (λ (l : List ℕ). Among l (take all answers)) (take-take fresh all answers few) (first_among fresh (take all answers))
+
+pub joined_among : (M : ℕ) {fresh all : List ℕ} (N : ℕ) → Among fresh all → JoinedWith M fresh N → JoinedWith M all N
+joined_among M N among (q, m, t) = (q, among q m, t)
 
 -- a new row joins all answers, an older one the fresh
-pub due_new : (M : ℕ) (answers : List ℕ) (since fresh all r N : ℕ) → fresh ≤ all → since ≤ r → Due M answers since fresh all r N ↔ JoinedWith M answers all N
-due_new M answers since fresh all r N few new = (⊎_elim (joined_fewer M answers fresh all N few) (λ d. d.1), λ j. inr (new, j))
+pub due_new : (M : ℕ) (fresh all : List ℕ) (since r N : ℕ) → Among fresh all → since ≤ r → Due M fresh all since r N ↔ JoinedWith M all N
+due_new M fresh all since r N among new = (⊎_elim (joined_among M N among) (λ d. d.1), λ j. inr (new, j))
 
-pub due_old : (M : ℕ) (answers : List ℕ) (since fresh all r N : ℕ) → r < since → Due M answers since fresh all r N ↔ JoinedWith M answers fresh N
-due_old M answers since fresh all r N old = (⊎_elim (λ j. j) (λ d. absurd (let l = d.0 in omega arith)), inl)
+pub due_old : (M : ℕ) (fresh all : List ℕ) (since r N : ℕ) → r < since → Due M fresh all since r N ↔ JoinedWith M fresh N
+due_old M fresh all since r N old = (⊎_elim (λ j. j) (λ d. absurd (let l = d.0 in omega arith)), inl)
 
 -- one row of the chain more
-module _ (table answers : List ℕ) (slot rows newest since fresh all : ℕ) (chain : SlotChain table slot rows newest) where
-  pub marks_begin : (N : ℕ) → ContMarks table answers slot rows since fresh all newest N → ⊥
+module _ (table fresh all : List ℕ) (slot rows newest since : ℕ) (chain : SlotChain table slot rows newest) where
+  pub marks_begin : (N : ℕ) → ContMarks table fresh all slot rows since newest N → ⊥
   marks_begin N (r, f, l, e, d) = chain.head.last r f l e
 
   module _ (link : ℕ) (within : link ≤ rows) (own : (r : ℕ) → suc r ≡ link → slot_at table r ≡ slot) (more : 0 < link) where
@@ -72,19 +77,19 @@ module _ (table answers : List ℕ) (slot rows newest since fresh all : ℕ) (ch
     pub next_own : (r : ℕ) → suc r ≡ before_at table (link - 1) → slot_at table r ≡ slot
     next_own r e = latest.own r e ∙ link_slot
 
-    pub next_marks : (N : ℕ) → ContMarks table answers slot rows since fresh all (before_at table (link - 1)) N
-        ↔ (ContMarks table answers slot rows since fresh all link N ⊎ Due (mask_at table (link - 1)) answers since fresh all (link - 1) N)
+    pub next_marks : (N : ℕ) → ContMarks table fresh all slot rows since (before_at table (link - 1)) N
+        ↔ (ContMarks table fresh all slot rows since link N ⊎ Due (mask_at table (link - 1)) fresh all since (link - 1) N)
     next_marks N = (λ (r, f, l, e, d). to r f l e d (dec_lt r link) (ℕ_discrete r (link - 1)), from)
       where
-        to : (r : ℕ) → before_at table (link - 1) ≤ r → r < rows → slot_at table r ≡ slot → Due (mask_at table r) answers since fresh all r N
+        to : (r : ℕ) → before_at table (link - 1) ≤ r → r < rows → slot_at table r ≡ slot → Due (mask_at table r) fresh all since r N
             → Dec (r < link) → Dec (r ≡ link - 1)
-            → ContMarks table answers slot rows since fresh all link N ⊎ Due (mask_at table (link - 1)) answers since fresh all (link - 1) N
+            → ContMarks table fresh all slot rows since link N ⊎ Due (mask_at table (link - 1)) fresh all since (link - 1) N
         to r f l e d (no o) _ = inl (r, omega arith, l, e, d)
         to r f l e d (yes b) (yes i) = inr (rw i at d)
         to r f l e d (yes b) (no o) = absurd (latest.last r f (omega arith) (e ∙ sym link_slot))
 
-        from : ContMarks table answers slot rows since fresh all link N ⊎ Due (mask_at table (link - 1)) answers since fresh all (link - 1) N
-            → ContMarks table answers slot rows since fresh all (before_at table (link - 1)) N
+        from : ContMarks table fresh all slot rows since link N ⊎ Due (mask_at table (link - 1)) fresh all since (link - 1) N
+            → ContMarks table fresh all slot rows since (before_at table (link - 1)) N
         from (inl (r, f, l, e, d)) = (r, omega (arith, next_falls), l, e, d)
         from (inr d) = (link - 1, omega (arith, next_falls), omega arith, link_slot, d)
 

@@ -69,14 +69,14 @@ module _ {A : Term} {order : List ℕ} {count j : ℕ} (k : FewVars A order coun
       omega (arith, length-map l (renumbered_of A (number A)))
 
   -- answers put into the set
-  pub kept_none : (answers answered : List ℕ) → Gained (Ordered order count answers 0) (answer_set * j) answer_set answered answered
+  pub kept_none : (answers answered : List ℕ) → Gained (Ordered order count (take 0 answers)) (answer_set * j) answer_set answered answered
   kept_none answers answered = gained_none (answer_set * j) answer_set answered (λ q o. Memᴰ.not-nil o.1)
 
   module _ (answers : List ℕ) (i M : ℕ) (r : Reordered order count (get_or answers i 0) M) where
     pub answer_small : M < answer_masks
     answer_small = omega (arith, few_masks, reordered_below (get_or answers i 0) M r)
 
-    one_more_law : i < length answers → (q : ℕ) → (Ordered order count answers i q ⊎ (q ≡ M)) ↔ Ordered order count answers (i + 1) q
+    one_more_law : i < length answers → (q : ℕ) → (Ordered order count (take i answers) q ⊎ (q ≡ M)) ↔ Ordered order count (take (i + 1) answers) q
     one_more_law less q = (
       ⊎_elim
           (λ o. (o.0, subst (Memᴰ o.0) (sym parts) (Memᴰ.append_left _ o.1), o.2))
@@ -90,8 +90,8 @@ module _ {A : Term} {order : List ℕ} {count j : ℕ} (k : FewVars A order coun
         parts : take (i + 1) answers ≡ take i answers ++ (get_or answers i 0 ∷ [])
         parts = rw add-one (take-suc answers i 0 less)
 
-    pub kept_one : {answered₀ answered answered' : List ℕ} → i < length answers → Gained (Ordered order count answers i) (answer_set * j) answer_set answered₀ answered
-        → (M < answer_masks → Gained (λ q. q ≡ M) (answer_set * j) answer_set answered answered') → Gained (Ordered order count answers (i + 1)) (answer_set * j) answer_set answered₀ answered'
+    pub kept_one : {answered₀ answered answered' : List ℕ} → i < length answers → Gained (Ordered order count (take i answers)) (answer_set * j) answer_set answered₀ answered
+        → (M < answer_masks → Gained (λ q. q ≡ M) (answer_set * j) answer_set answered answered') → Gained (Ordered order count (take (i + 1) answers)) (answer_set * j) answer_set answered₀ answered'
     kept_one less before put = gained_then before (put answer_small) (one_more_law less)
 
 -- answers listed from the set

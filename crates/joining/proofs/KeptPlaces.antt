@@ -1,11 +1,11 @@
 -- The answers of a place that are kept: with those of the rows that are not known yet they are all, and listed from the set they are as they were.
-use Prim.Native.Nat.{ℕ, ◌+◌, ◌-◌, ◌*◌, ◌^◌, ◌≤◌, ◌<◌}
+use Prim.Native.Nat.{ℕ, ◌+◌, ◌*◌, ◌^◌, ◌≤◌, ◌<◌}
 use native.Mathlib.Omega.{arith}
 use native.Mathlib.Decide.{dec_lt}
 use mathlib.Core.Path.{◌≡◌, sym, ap, subst, ◌∙◌}
 use mathlib.Core.Logic.{◌⊎◌, inl, inr, ⊎_elim, ◌↔◌}
 use mathlib.Core.List.{List, Memᴰ}
-use lib.ListN.{length, get_or, set, take, drop, replicate}
+use lib.ListN.{get_or, set, take, replicate}
 use lib.Seq.{take-take}
 use Rattle.terms.specs.Term.{Term}
 use Rattle.terms.proofs.Masks.{has_none, marks_unique}
@@ -19,22 +19,18 @@ use Rattle.program.specs.Program.{Program}
 use Rattle.program.specs.Shapes.{number}
 use Rattle.program.specs.Limits.{row_size}
 use Rattle.program.proofs.ShapeLaws.{nth_same}
-use Rattle.directory.specs.Layout.{body_start, body_cells}
-use Rattle.directory.proofs.Cuts.{middle_part}
 use Rattle.rows.specs.Rows.{slot_at, mask_at}
 use Rattle.rows.specs.KeptSets.{Gained, things, kept_words}
 use Rattle.rows.proofs.KeptSets.{keeping_none, keeping_later, keeping_for, known_here, keeping_gained}
 use Rattle.program.proofs.FoundLaws.{sound_same}
-use Rattle.steps.specs.Situation.{Setting, Situation, BodyOf, AtomRun}
+use Rattle.steps.specs.Situation.{Setting, Situation, BodyOf}
 use Rattle.steps.specs.Steps.{Stepped}
-use Rattle.steps.proofs.BodyAtoms.{body_at, body_atom}
-use Rattle.steps.proofs.Meetings.{setting_within}
+use Rattle.steps.proofs.BodyAtoms.{body_atom}
 use Rattle.steps.proofs.Stepping.{stepped_within}
 use Rattle.joining.specs.Answers.{Answer, Found}
-use Rattle.joining.specs.Joined.{Answered}
+use Rattle.joining.specs.Joined.{ListedFrom, Answered}
 use Rattle.joining.specs.KeptAnswers.{answer_vars, answer_set, answer_masks, AnsweredIn, answered_of, OwnAnswer, KeptAtom, AnswersTo, KeepingAnswers, KeepsAnswers, Ordered, Recalled, Own, FewVars}
 use Rattle.joining.proofs.KeptMasks.{few_masks, renumbered_below}
-use Rattle.joining.proofs.PlaceAnswers.{SinceKnown}
 use Rattle.joining.proofs.PlaceSteps.{one_body}
 
 same_atom : (p : Program) {j : ℕ} (b b' : BodyOf p j) → b.A ≡ b'.A
@@ -59,27 +55,13 @@ pub keeps_answers : {words dir : List ℕ} {p : Program} (table answered : List 
 keeps_answers table answered n s h p' s' = subst (λ (x : Program). KeepingAnswers x table answered n) (sound_same _ s.accepted s'.accepted) h
 
 module _ {words dir table heads : List ℕ} {since rows j : ℕ} (w : Situation words dir table heads since rows) (b : BodyOf w.p j) where
-  -- the atom's run, whose variables are put in order
-  pub body_run : (start cells : ℕ) → start ≡ get_or dir (body_start + j) 0 → cells ≡ get_or dir (body_cells + j) 0
-      → AtomRun (take (start + cells - start) (drop start words)) b.A × (start + cells ≤ length words)
-  body_run start cells e f = (
-    record {
-      predicates = w.p.predicates;
-      functions = w.p.functions;
-      is = middle_part words start cells ∙ rw (e, f) (body_at w.setting b).stands.run;
-      atom = body_atom w.setting b;
-      few = (setting_within w.setting).predicates_most;
-    },
-    rw (e, f) (body_at w.setting b).stands.fits,
-  )
-
   pub few_vars : {order : List ℕ} {count : ℕ} → InOrder b.A (number b.A) order count → count ≤ answer_vars → j < things → FewVars b.A order count j
   few_vars o l n = record { in_order = o; variables_few = atom_variables (body_atom w.setting b); few = l; near = n }
 
   module _ {order : List ℕ} {count : ℕ} (k : FewVars b.A order count j) where
-    module _ (answered answered' answers : List ℕ) (known fresh all : ℕ) (s : KeepingAnswers w.p table answered rows) (early : known ≤ answered_of answered j)
-        (listed : SinceKnown w.p table b.A known since rows answers fresh all) (g : Gained (Ordered order count answers all) (answer_set * j) answer_set answered answered')
-        (x : ℕ) (x-is : x ≡ rows) where
+    module _ {answered answered' : List ℕ} {known : ℕ} {fresh all : List ℕ} (s : KeepingAnswers w.p table answered rows) (early : known ≤ answered_of answered j)
+        (listed : ListedFrom w.p table b.A known since rows fresh all) (g : Gained (Ordered order count all) (answer_set * j) answer_set answered answered')
+        {x : ℕ} (x-is : x ≡ rows) where
       its_answers : (q : ℕ) → q < answer_masks → AnsweredIn answered' j q ↔ OwnAnswer w.p table b.A x q
       its_answers q l = rw x-is (
         λ h. ⊎_elim
@@ -102,15 +84,15 @@ module _ {words dir table heads : List ℕ} {since rows j : ℕ} (w : Situation 
       pub known_answered : answered_of (set answered' (answer_set * things + j) x) j ≡ rows
       known_answered = known_here answer_set (KeptAtom w.p) (λ j' atom. atom.0) s.sets.every_word j k.near g x ∙ x-is
 
-    module _ (answers : List ℕ) (known fresh all newest : ℕ) (listed : SinceKnown w.p table b.A known since rows answers fresh all) where
+    module _ (answers : List ℕ) {known : ℕ} (fresh all : ℕ) {newest : ℕ} (listed : ListedFrom w.p table b.A known since rows (take fresh answers) (take all answers)) where
       -- no cont row is new
-      pub answered_new : newest ≤ since → Answered w.p table b.A since rows newest answers fresh all
+      pub answered_new : newest ≤ since → Answered w.p table b.A since rows newest (take fresh answers) (take all answers)
       answered_new l = record { fresh_are = listed.fresh_are; all_are = λ q m. answer_wider w.p table b.A ((listed.are q).0 m) (omega arith) (omega arith); all_new = λ late. absurd (omega arith) }
 
       -- the kept answers are listed behind the others
-      pub answered_recalled : (answered : List ℕ) → KeepingAnswers w.p table answered rows → answered_of answered j ≡ rows → {seen' answers' : List ℕ} {all' : ℕ}
-          → Found (Recalled order count answered j (2 ^ count)) seen' answers' all all' answers → Answered w.p table b.A since rows newest answers' fresh all'
-      answered_recalled answered s e {answers' = answers'} f =
+      pub answered_recalled : fresh ≤ all → {answered : List ℕ} → KeepingAnswers w.p table answered rows → answered_of answered j ≡ rows → {seen' answers' : List ℕ} {all' : ℕ}
+          → Found (Recalled order count answered j (2 ^ count)) seen' answers' all all' answers → Answered w.p table b.A since rows newest (take fresh answers') (take all' answers')
+      answered_recalled few {answered} s e {answers' = answers'} f =
           record {
             fresh_are = λ q. subst (λ (x : List ℕ). Memᴰ q x ↔ Answer w.p table b.A since rows q) (sym front) (listed.fresh_are q);
             all_are = λ q m. ⊎_elim (λ n. answer_wider w.p table b.A ((listed.are q).0 n) (omega arith) (omega arith)) (λ r. out q r.0 r.1 r.2 r.3) ((f.members q).0 m);
@@ -118,7 +100,7 @@ module _ {words dir table heads : List ℕ} {since rows j : ℕ} (w : Situation 
           }
         where
           front : take fresh answers' ≡ take fresh answers
-          front = sym (take-take fresh all answers' listed.few) ∙ ap (take fresh) f.keeps ∙ take-take fresh all answers listed.few
+          front = sym (take-take fresh all answers' few) ∙ ap (take fresh) f.keeps ∙ take-take fresh all answers few
 
           out : (N q : ℕ) → q < 2 ^ count → AnsweredIn answered j q → Restored order count q N → Answer w.p table b.A 0 rows N
           out N q small h r =

@@ -13,3 +13,4 @@ pub mod Settling
 pub mod Forgetting
 pub mod KeptMasks
 pub mod KeptPlaces
+pub mod BodyRuns

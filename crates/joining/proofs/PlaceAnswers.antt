@@ -25,8 +25,8 @@ use Rattle.table.specs.Keys.{first_cont, first_solution, body_index, row_at}
 use Rattle.table.proofs.Keys.{cont_at, solution_at, clause_at_law, place_at_law}
 use Rattle.steps.specs.Steps.{RowsIn}
 use Rattle.steps.specs.Situation.{Situation, BodyOf}
-use Rattle.joining.specs.Answers.{Listing, Answer, Found, Stands, Parted}
-use Rattle.joining.specs.Joined.{ContMarks, SlotChain, AnswersThere, Answered}
+use Rattle.joining.specs.Answers.{Listing, SetOf, Answer, Found, Stands, Parted}
+use Rattle.joining.specs.Joined.{ContMarks, SlotChain, AnswersThere, ListedFrom, Answered}
 use Rattle.steps.proofs.Bodies.{body_few}
 use Rattle.steps.proofs.SlotRows.{at_slot, in_slot, older_row}
 
@@ -34,13 +34,17 @@ use Rattle.steps.proofs.SlotRows.{at_slot, in_slot, older_row}
 pub listing_within : {seen answers : List ℕ} {count : ℕ} → Listing seen answers count → count ≤ length answers
 listing_within l = omega (arith, l.within, l.list_size)
 
--- answers by other names of the list and its counts
-pub answers_as : {answers answers' : List ℕ} {fresh all all' : ℕ} → answers ≡ answers' → all ≡ all' → AnswersThere answers' fresh all' → AnswersThere answers fresh all
-answers_as a e there = rw a (rw e there)
+-- the set has what is listed
+pub listing_set : {seen answers : List ℕ} {count : ℕ} → Listing seen answers count → SetOf seen (take count answers)
+listing_set l = record { set_size = l.set_size; small = l.small; same = l.same }
 
-pub answered_as : {p : Program} {table : List ℕ} {A : Term} {since rows newest : ℕ} {answers answers' : List ℕ} {fresh all all' : ℕ} → answers ≡ answers' → all ≡ all'
-    → Answered p table A since rows newest answers' fresh all' → Answered p table A since rows newest answers fresh all
-answered_as a e h = rw a (rw e h)
+-- answers by other names of the list and its counts
+pub answers_as : {answers answers' : List ℕ} {fresh fresh' all all' : ℕ} → answers ≡ answers' → fresh ≡ fresh' → all ≡ all' → AnswersThere answers' fresh' all' → AnswersThere answers fresh all
+answers_as a f e there = rw a (rw f (rw e there))
+
+pub answered_as : {p : Program} {table : List ℕ} {A : Term} {since rows newest : ℕ} {answers answers' : List ℕ} {fresh fresh' all all' : ℕ} → answers ≡ answers' → fresh ≡ fresh' → all ≡ all'
+    → Answered p table A since rows newest (take fresh' answers') (take all' answers') → Answered p table A since rows newest (take fresh answers) (take all answers)
+answered_as a f e h = rw a (rw f (rw e h))
 
 -- nothing is listed yet
 pub listing_none : (seen answers : List ℕ) → seen ≡ replicate set_words 0 → length answers ≡ max_rows → Listing seen answers 0
@@ -53,12 +57,6 @@ listing_none seen answers zeros size =
       same = λ q l. (λ h. absurd (none_in_zeros set_words q (subst (λ (s : List ℕ). InSet s q) zeros h)), λ m. absurd (Memᴰ.not-nil m));
       distinct = tt;
     }
-
--- the answers of the rows from `known` on are listed, the fresh ones first
-pub record SinceKnown (p : Program) (table : List ℕ) (A : Term) (known since rows : ℕ) (answers : List ℕ) (fresh all : ℕ) : Type 0 where
-  pub fresh_are : (q : ℕ) → Memᴰ q (take fresh answers) ↔ Answer p table A since rows q
-  pub are : (q : ℕ) → Memᴰ q (take all answers) ↔ Answer p table A known rows q
-  pub few : fresh ≤ all
 
 -- the answers at the back were listed behind the fresh ones
 module _ (p : Program) (table : List ℕ) (A : Term) (from since rows : ℕ) {seen answers seen' answers' : List ℕ} {fresh older all : ℕ} (parted : Parted p table A from since rows seen answers fresh older)
@@ -84,16 +82,18 @@ module _ (p : Program) (table : List ℕ) (A : Term) (from since rows : ℕ) {se
         at r f l s S hs e t (yes k) = inr ((parted.back q).1 (r, f, k, s, S, hs, e, t))
         at r f l s S hs e t (no k) = inl ((listed q).1 (r, omega arith, l, s, S, hs, e, t))
 
-    pub since_known : SinceKnown p table A from since rows answers' fresh all
-    since_known = record { fresh_are = settled_fresh; are = settled_are; few = found.more }
+    pub listed_from : ListedFrom p table A from since rows (take fresh answers') (take all answers')
+    listed_from = record { fresh_are = settled_fresh; are = settled_are }
 
-    pub all_answered : (newest : ℕ) → (since < newest → from ≡ 0) → Answered p table A since rows newest answers' fresh all
-    all_answered newest from_start =
-        record {
-          fresh_are = settled_fresh;
-          all_are = λ q m. let (r, f, l, s, S, hs, e, t) = (settled_are q).0 m in (r, omega arith, l, s, S, hs, e, t);
-          all_new = λ late q (r, f, l, s, S, hs, e, t). (settled_are q).1 (r, omega (arith, from_start late), l, s, S, hs, e, t);
-        }
+-- what is listed are all answers, where rows are passed from the first on as a cont row is new
+pub all_answered : {p : Program} {table : List ℕ} {A : Term} {from since rows newest : ℕ} {fresh all : List ℕ} → ListedFrom p table A from since rows fresh all
+    → (since < newest → from ≡ 0) → Answered p table A since rows newest fresh all
+all_answered listed from_start =
+    record {
+      fresh_are = listed.fresh_are;
+      all_are = λ q m. let (r, f, l, s, S, hs, e, t) = (listed.are q).0 m in (r, omega arith, l, s, S, hs, e, t);
+      all_new = λ late q (r, f, l, s, S, hs, e, t). (listed.are q).1 (r, omega (arith, from_start late), l, s, S, hs, e, t);
+    }
 
 module _ {words dir table heads : List ℕ} {since rows j : ℕ} (w : Situation words dir table heads since rows) (b : BodyOf w.p j) where
   pub place_slot : first_cont + j < slots
@@ -146,7 +146,7 @@ module _ {words dir table heads : List ℕ} {since rows j : ℕ} (w : Situation 
       let (r, l, e, m) = in_slot w.p table heads since rows w.chains rows (cont (suc b.k) (suc b.i) M) (omega arith) row in
       place_chain.head.last r (omega arith) l (e ∙ ap (λ (x : ℕ). first_cont + x) (sym b.is))
 
-  module _ (answers : List ℕ) (fresh all : ℕ) (a : Answered w.p table b.A since rows (get_or heads (first_cont + j) 0) answers fresh all) where
+  module _ (fresh all : List ℕ) (a : Answered w.p table b.A since rows (get_or heads (first_cont + j) 0) fresh all) where
     abbrev Made : ℕ → Type 0
     Made N = NewReached modes w.p (RowsIn w.p (keys_of table since)) (RowsIn w.p (keys_of table rows)) b.k (suc b.i) N
 
@@ -162,14 +162,14 @@ module _ {words dir table heads : List ℕ} {since rows j : ℕ} (w : Situation 
     )
 
     -- what the cont rows make with the answers is what rule 2 makes with a new row
-    pub conts_reach : (N : ℕ) → ContMarks table answers (first_cont + j) rows since fresh all 0 N ↔ Made N
+    pub conts_reach : (N : ℕ) → ContMarks table fresh all (first_cont + j) rows since 0 N ↔ Made N
     conts_reach N = (to, from)
       where
-        to : ContMarks table answers (first_cont + j) rows since fresh all 0 N → Made N
+        to : ContMarks table fresh all (first_cont + j) rows since 0 N → Made N
         to (r, f, l, e, inl (q, m, t)) = let (r', f', l', s, S, hs, e', pass) = (a.fresh_are q).0 m in made r q N l e (r', omega arith, l', s, S, hs, e', pass) (inr f') t
         to (r, f, l, e, inr (n, (q, m, t))) = made r q N l e (a.all_are q m) (inl n) t
 
-        from : Made N → ContMarks table answers (first_cont + j) rows since fresh all 0 N
+        from : Made N → ContMarks table fresh all (first_cont + j) rows since 0 N
         from (M, s, L, row, row', new, makes {S = S} {Q = Q} hc hA hs passed joined) =
             let (r, l, e, m) = in_slot w.p table heads since rows w.chains rows (cont (suc b.k) (suc b.i) M) (omega arith) row in
             let (r', l', e', m') = in_slot w.p table heads since rows w.chains rows (solution s L) (omega arith) row' in

@@ -12,7 +12,9 @@ use Rattle.program.specs.Lists.{Distinct}
 use Rattle.rows.specs.Rows.{slot_at, mask_at}
 use Rattle.rows.specs.MaskSet.{set_words, InSet}
 use Rattle.table.specs.Keys.{first_solution}
-use Rattle.steps.specs.Situation.{Situation, BodyOf}
+use Rattle.steps.specs.Situation.{BodyOf}
+use Rattle.joining.specs.Standings.{SituationOf}
+use Rattle.joining.specs.declared.standing.Standing.{Standing}
 
 -- the first `count` answers are those seen
 pub record Listing (seen answers : List ℕ) (count : ℕ) : Type 0 where
@@ -22,6 +24,12 @@ pub record Listing (seen answers : List ℕ) (count : ℕ) : Type 0 where
   pub small : (q : ℕ) → Memᴰ q (take count answers) → q < masks
   pub same : (q : ℕ) → q < masks → InSet seen q ↔ Memᴰ q (take count answers)
   pub distinct : Distinct (take count answers)
+
+-- the set has these answers and no others
+pub record SetOf (seen answers : List ℕ) : Type 0 where
+  pub set_size : length seen ≡ set_words
+  pub small : (q : ℕ) → Memᴰ q answers → q < masks
+  pub same : (q : ℕ) → q < masks → InSet seen q ↔ Memᴰ q answers
 
 -- the rows that gave the answers, each one answer at most: so there are no more answers than rows
 pub record Sources (From : ℕ → Type 0) (rows count : ℕ) : Type 0 where
@@ -58,10 +66,10 @@ pub record Parted (p : Program) (table : List ℕ) (A : Term) (from since rows :
   pub most : older ≤ max_rows
 
 -- what is asked before answers are listed
-pub record AnswersAsked (words dir table heads seen answers : List ℕ) (j from since rows : ℕ) : Type 0 where
-  pub situation : Situation words dir table heads since rows
+pub record AnswersAsked (standing : Standing) (seen answers : List ℕ) (j from : ℕ) : Type 0 where
+  pub situation : SituationOf standing
   pub body : BodyOf situation.p j
-  pub ordered : from ≤ since
+  pub ordered : from ≤ standing.since
   pub listing : Listing seen answers 0
 
 -- what is asked before the answers at the back are listed behind the fresh ones

@@ -7,7 +7,9 @@ use Rattle.marks.specs.Modes.{Renumbered, Reordered, Restored, InOrder}
 use Rattle.program.specs.Program.{Program}
 use Rattle.program.specs.Shapes.{number}
 use Rattle.rows.specs.KeptSets.{masks_in, KeptAt, things, known_of, kept_words, Keeping}
-use Rattle.steps.specs.Situation.{Setting, Situation, BodyOf}
+use Rattle.steps.specs.Situation.{Setting, BodyOf}
+use Rattle.joining.specs.Standings.{SituationOf}
+use Rattle.joining.specs.declared.standing.Standing.{Standing}
 use Rattle.joining.specs.Answers.{Listing, Answer}
 
 -- answers to an atom of at most so many variables are kept: so many words have a bit for each of its masks
@@ -46,9 +48,9 @@ pub record KeepingAnswers (p : Program) (table answered : List ℕ) (n : ℕ) : 
 abbrev pub KeepsAnswers : List ℕ → List ℕ → List ℕ → List ℕ → ℕ → Type 0
 KeepsAnswers words dir table answered n = (p : Program) → Setting words dir p → KeepingAnswers p table answered n
 
--- one of the first `upto` answers, in the list's order
-abbrev pub Ordered : List ℕ → ℕ → List ℕ → ℕ → ℕ → Type 0
-Ordered order count answers upto q = (N : ℕ) × Memᴰ N (take upto answers) × Reordered order count N q
+-- one of the answers, in the list's order
+abbrev pub Ordered : List ℕ → ℕ → List ℕ → ℕ → Type 0
+Ordered order count answers q = (N : ℕ) × Memᴰ N answers × Reordered order count N q
 
 -- what is in the set of body atom j, of the masks below so many, back in the clause's numbering
 abbrev pub Recalled : List ℕ → ℕ → List ℕ → ℕ → ℕ → ℕ → Type 0
@@ -65,11 +67,10 @@ pub record FewVars (A : Term) (order : List ℕ) (count j : ℕ) : Type 0 where
   pub few : count ≤ answer_vars
   pub near : j < things
 
--- what is asked before the first `upto` answers are put into the set of body atom j
-pub record KeepAsked (order answers answered : List ℕ) (count upto j : ℕ) : Type 0 where
+-- what is asked before answers are put into the set of body atom j
+pub record KeepAsked (order answered : List ℕ) (count j : ℕ) : Type 0 where
   pub A : Term
   pub kept : FewVars A order count j
-  pub within : upto ≤ length answers
   pub size : length answered ≡ kept_words answer_set
 
 -- what is asked before the set of body atom j is listed behind the first `upto` answers
@@ -81,7 +82,12 @@ pub record RecallAsked (order seen answers answered : List ℕ) (count upto j : 
   pub size : length answered ≡ kept_words answer_set
 
 -- the analysis stands at body atom j, whose answers are kept
-pub record KeptAsked (words dir table heads order : List ℕ) (count since rows j : ℕ) : Type 0 where
-  pub situation : Situation words dir table heads since rows
+pub record KeptAsked (standing : Standing) (order : List ℕ) (count j : ℕ) : Type 0 where
+  pub situation : SituationOf standing
   pub body : BodyOf situation.p j
-  pub kept : (w : Situation words dir table heads since rows) (b : BodyOf w.p j) → FewVars b.A order count j
+  pub near : j < things
+  pub kept : (w : SituationOf standing) (b : BodyOf w.p j) → FewVars b.A order count j
+
+-- the answers that are kept are those of the rows so far
+abbrev pub KeepsFor : Standing → List ℕ → Type 0
+KeepsFor s answered = KeepsAnswers s.program.words.now s.program.dir.now s.table.now answered s.before

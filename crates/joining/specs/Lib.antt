@@ -3,3 +3,5 @@ pub mod Answers
 pub mod AnswerSteps
 pub mod Joined
 pub mod KeptAnswers
+pub mod Bodies
+pub mod Standings

@@ -2,11 +2,14 @@
 ghost use Rattle.std.specs.Prelude.{◌≡◌, replicate};
 ghost use Rattle.program.specs.Limits.{max_rows};
 ghost use Rattle.rows.specs.MaskSet.{set_words};
-ghost use Rattle.steps.specs.Situation.{Situation, BodyOf};
-ghost use Rattle.joining.specs.Answers.{Listing, Found, Stands, Parted, AnswersAsked, SettleAsked};
+ghost use Rattle.steps.specs.Situation.{BodyOf};
+ghost use Rattle.joining.specs.Standings.{SituationOf};
+ghost use Rattle.joining.specs.Answers.{SetOf, Found, Stands, Parted, AnswersAsked, SettleAsked};
 ghost use Rattle.joining.specs.AnswerSteps.{Sided, ShapeAsked, GivenFrom, MetAsked, GivenWith};
 
-use directory::layout::{BODY_CELLS, BODY_START, PREDICATE_SHAPE, SHAPE_NEXT, SHAPE_VARS};
+use crate::standing::{Standing, body_span};
+use directory::encoded::Span;
+use directory::layout::{PREDICATE_SHAPE, SHAPE_NEXT, SHAPE_VARS};
 use marks::pass::pass_on;
 use marks::variables::variables_of;
 use program::limits::MAX_ROWS;
@@ -14,123 +17,126 @@ use rows::maskset::insert;
 use rows::row::{before_at, mask_at};
 use steps::meet::{first_variables, meet};
 use steps::place::SOLUTIONS;
-use terms::walk::wide;
 
 // The fresh answers, of new solution rows, stand before place `fresh`, those of older rows from place `older` on.
+// The list and the set of those seen are lent words: with no heap there are no collections that know how many they have.
+// They go beside this struct: with a `&mut` in it each contract would have to say too that it still lends the same words.
 #[derive(Drop)]
 pub struct Sides {
     pub fresh: usize,
     pub older: usize,
 }
 
-// Of the solution rows of one shape from row `from` on: the marks that they pass to the atom.
-// Those of the rows from `since` on go to the front, each once, those of the older ones to the back, as they come.
-fn of_shape(
-    table: &[u16],
-    newest: usize,
-    sets: &[u32; 32],
+// How marks pass from a shape to the atom: on the sets of their unifier, from the variables of the one to those of the other.
+#[derive(Clone, Copy)]
+struct Passage<'a> {
+    sets: &'a [u32; 32],
     here: u16,
     there: u16,
-    from: usize,
-    since: usize,
-    seen: &mut [u16],
-    answers: &mut [u16],
-    sides: Sides,
-) -> Sides
-    requires { ShapeAsked table.now seen.old answers.old newest from since sides.fresh sides.older }
-    ensures { (w : ShapeAsked table.now seen.old answers.old newest from since sides.fresh sides.older)
-        → Sided (GivenFrom w.p w.A w.k w.s w.rows table.now sets.now here there from 0) since w.rows
-        seen.new answers.new result.fresh result.older }
-{
-    let mut fresh = sides.fresh;
-    let mut older = sides.older;
-    let mut link = newest;
-    while from < link {
-        let row = link - 1;
-        let mask = pass_on(sets, 0, mask_at(table, row), here, 16, 0, there);
-        if row < since {
-            older -= 1;
-            answers[older] = mask;
-        } else if insert(seen, mask) {
-            answers[fresh] = mask;
-            fresh += 1;
-        }
-        link = before_at(table, row);
-    }
-    Sides {
-        fresh: fresh,
-        older: older,
-    }
 }
 
-// Of the solution rows of shape s, where it unifies with the atom that stands at so many words from the start on.
+// Of the solution rows of one shape from row `from` on: the marks that they pass to the atom.
+// Those of the new rows go to the front, each once, those of the older ones to the back, as they come.
+fn of_shape<'a, 'b>(
+    standing: &Standing<'a>,
+    newest: usize,
+    passage: &Passage<'b>,
+    from: usize,
+    seen: &mut [u16],
+    answers: &mut [u16],
+    mut sides: Sides,
+) -> Sides
+    requires { ShapeAsked standing.now.table.now seen.old answers.old newest from standing.now.since sides.fresh sides.older }
+    ensures { (w : ShapeAsked standing.now.table.now seen.old answers.old newest from standing.now.since sides.fresh sides.older)
+        → Sided (GivenFrom w.p w.A w.k w.s w.rows standing.now.table.now passage.now.sets.now passage.now.here passage.now.there from 0) standing.now.since w.rows
+        seen.new answers.new result.fresh result.older }
+{
+    let mut link = newest;
+    // The rows of a slot are linked in the lent table: with no heap no list of them can be made to go over.
+    while from < link {
+        let row = link - 1;
+        let mask = pass_on(
+            passage.sets,
+            0,
+            mask_at(standing.table, row),
+            passage.here,
+            16,
+            0,
+            passage.there,
+        );
+        if row < standing.since {
+            sides.older -= 1;
+            answers[sides.older] = mask;
+        } else if insert(seen, mask) {
+            answers[sides.fresh] = mask;
+            sides.fresh += 1;
+        }
+        link = before_at(standing.table, row);
+    }
+    sides
+}
+
+// Of the solution rows of shape s, where it unifies with the atom.
 fn of_met<'a>(
-    words: &'a [u16],
-    dir: &'a [u16],
-    table: &[u16],
+    standing: &Standing<'a>,
     s: usize,
     newest: usize,
-    start: usize,
-    cells: usize,
+    atom: Span,
     there: u16,
     from: usize,
-    since: usize,
     seen: &mut [u16],
     answers: &mut [u16],
     sides: Sides,
 ) -> Sides
-    requires { MetAsked words.now dir.now table.now seen.old answers.old s newest start cells there from since sides.fresh sides.older }
-    ensures { (w : MetAsked words.now dir.now table.now seen.old answers.old s newest start cells there from since sides.fresh sides.older)
-        → Sided (GivenWith w.meeting.p w.meeting.A w.k s w.rows table.now from) since w.rows
+    requires { MetAsked standing.now.program.words.now standing.now.program.dir.now standing.now.table.now seen.old answers.old s newest atom.start atom.cells there from standing.now.since sides.fresh sides.older }
+    ensures { (w : MetAsked standing.now.program.words.now standing.now.program.dir.now standing.now.table.now seen.old answers.old s newest atom.start atom.cells there from standing.now.since sides.fresh sides.older)
+        → Sided (GivenWith w.meeting.p w.meeting.A w.k s w.rows standing.now.table.now from) standing.now.since w.rows
         seen.new answers.new result.fresh result.older }
 {
     let mut sets = [0u32; 32];
-    if meet(words, dir, s, start, cells, &mut sets) {
-        let here = first_variables(wide(dir[SHAPE_VARS + s]));
-        return of_shape(
-            table, newest, &sets, here, there, from, since, seen, answers, sides,
-        );
+    if meet(&standing.program, s, atom, &mut sets) {
+        let here = first_variables(usize::from(standing.program.dir[SHAPE_VARS + s]));
+        let passage = Passage {
+            sets: &sets,
+            here,
+            there,
+        };
+        return of_shape(standing, newest, &passage, from, seen, answers, sides);
     }
     sides
 }
 
 // Of all solution rows from row `from` on whose shape unifies with body atom j: each shape meets the atom once.
 pub fn answers_to<'a>(
-    words: &'a [u16],
-    dir: &'a [u16],
-    table: &[u16],
-    heads: &[u16],
+    standing: &Standing<'a>,
     j: usize,
     from: usize,
-    since: usize,
     seen: &mut [u16],
     answers: &mut [u16],
-    rows: usize,
 ) -> Sides
-    requires { AnswersAsked words.now dir.now table.now heads.now seen.old answers.old j from since rows }
-    ensures { (w : Situation words.now dir.now table.now heads.now since rows) (b : BodyOf w.p j)
-        → Parted w.p table.now b.A from since rows seen.new answers.new result.fresh result.older }
+    requires { AnswersAsked standing.now seen.old answers.old j from }
+    ensures { (w : SituationOf standing.now) (b : BodyOf w.p j)
+        → Parted w.p standing.now.table.now b.A from standing.now.since standing.now.before seen.new answers.new result.fresh result.older }
 {
-    let start = wide(dir[BODY_START + j]);
-    let cells = wide(dir[BODY_CELLS + j]);
-    let end = start + cells;
-    let next = start + 1;
+    let dir = standing.program.dir;
+    let words = standing.program.words;
+    let atom = body_span(&standing.program, j);
+    let end = atom.start + atom.cells;
+    let next = atom.start + 1;
     let there = variables_of(&words[next..end]);
     let mut sides = Sides {
         fresh: 0,
         older: MAX_ROWS,
     };
-    let mut link = wide(dir[PREDICATE_SHAPE + wide(words[start])]);
+    let mut link = usize::from(dir[PREDICATE_SHAPE + usize::from(words[atom.start])]);
+    // The shapes of a predicate are linked in the directory: with no heap no list of them can be made to go over.
     while 0 < link {
         let s = link - 1;
-        let newest = wide(heads[SOLUTIONS + s]);
+        let newest = usize::from(standing.heads[SOLUTIONS + s]);
         if from < newest {
-            sides = of_met(
-                words, dir, table, s, newest, start, cells, there, from, since, seen, answers,
-                sides,
-            );
+            sides = of_met(standing, s, newest, atom, there, from, seen, answers, sides);
         }
-        link = wide(dir[SHAPE_NEXT + s]);
+        link = usize::from(dir[SHAPE_NEXT + s]);
     }
     sides
 }
@@ -141,26 +147,23 @@ pub fn settle(seen: &mut [u16], answers: &mut [u16], fresh: usize, older: usize)
     ensures { Found (Stands answers.old older max_rows) seen.new answers.new fresh result answers.old }
 {
     let mut all = fresh;
-    let mut i = older;
-    while i < MAX_ROWS {
+    // By places: an iterator over the list would keep it lent while it is written.
+    for i in older..MAX_ROWS {
         let mask = answers[i];
         if insert(seen, mask) {
             answers[all] = mask;
             all += 1;
         }
-        i += 1;
     }
     all
 }
 
-// Takes the first `count` answers out of the set of those seen.
-pub fn forget(seen: &mut [u16], answers: &[u16], count: usize)
-    requires { Listing seen.old answers.now count }
+// Takes the answers out of the set of those seen.
+pub fn forget(seen: &mut [u16], answers: &[u16])
+    requires { SetOf seen.old answers.now }
     ensures { seen.new ≡ replicate set_words 0 }
 {
-    let mut i = 0;
-    while i < count {
-        seen[wide(answers[i]) / 16] = 0;
-        i += 1;
+    for &answer in answers {
+        seen[usize::from(answer) / 16] = 0;
     }
 }

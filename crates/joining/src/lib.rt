@@ -5,3 +5,4 @@ pub mod answers;
 pub mod joins;
 pub mod kept;
 pub mod listing;
+pub mod standing;

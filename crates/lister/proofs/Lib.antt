@@ -3,4 +3,5 @@ pub mod ListedOnce
 pub mod Samples
 pub mod Tails
 pub mod LineLaws
+pub mod EachLine
 pub mod Replies

@@ -1,14 +1,14 @@
 -- The lines of a listing, one more at a time; the rows of the table, by their words.
-use Prim.Native.Nat.{ℕ, suc, ◌+◌, ◌*◌, ◌<◌}
+use Prim.Native.Nat.{ℕ, zero, suc, ◌+◌, ◌*◌, ◌≤◌, ◌<◌}
 use native.Mathlib.Omega.{arith}
-use mathlib.Core.Path.{◌≡◌, refl, sym, ap, ◌∙◌}
+use mathlib.Core.Path.{◌≡◌, refl, sym, ap, ap₂, ◌∙◌}
 use mathlib.Core.List.{List, [], ◌∷◌, ◌++◌, append_assoc, append-nil}
-use lib.ListN.{length, get_or, take, drop, take-append-drop, length-append}
+use lib.ListN.{length, get_or, take, length-append}
 use lib.Seq.{length-take-le}
-use Rattle.terms.specs.Term.{Term}
+use Rattle.terms.specs.Term.{Term, var}
 use Rattle.program.specs.Program.{Nth, here, there, Program}
 use Rattle.program.specs.Limits.{row_size}
-use Rattle.program.proofs.ShapeLaws.{nth_member}
+use Rattle.program.proofs.ShapeLaws.{nth_member, nth_get_d}
 use Rattle.directory.specs.Layout.{shape_count}
 use Rattle.directory.proofs.DirectoryLaws.{shape_under}
 use Rattle.program.proofs.Nths.{nth_below, below_nth}
@@ -23,6 +23,7 @@ use Rattle.writer.proofs.Answers.{names_size}
 use Rattle.listing_lines.specs.Lines.{shape_line, row_line}
 use Rattle.listing_lines.specs.Asked.{RowIn, Spoken, ShapeAsked}
 use Rattle.lister.specs.Listing.{shape_lines, row_lines}
+use Rattle.lister.specs.Joined.{joined}
 use Rattle.lister.specs.Asked.{Tabled, ListingAsked}
 
 module _ (names : List ℕ) (predicates : ℕ) where
@@ -42,10 +43,15 @@ module _ (names : List ℕ) (predicates : ℕ) where
       ∙ ap (λ (n : ℕ). shape_lines names predicates 0 (take s l) ++ (shape_line names predicates n S ++ [])) e
       ∙ ap (λ (x : List ℕ). shape_lines names predicates 0 (take s l) ++ x) (append-nil (shape_line names predicates s S))
 
-  -- those still to come
-  pub shapes_rest : (s : ℕ) (l : List Term)
-      → shape_lines names predicates 0 (take s l) ++ shape_lines names predicates (0 + length (take s l)) (drop s l) ≡ shape_lines names predicates 0 l
-  shapes_rest s l = sym (shapes_append 0 (take s l) (drop s l)) ∙ ap (shape_lines names predicates 0) (take-append-drop s l)
+  -- shape number s of them
+  abbrev pub shape_text : List Term → ℕ → List ℕ
+  shape_text l s = shape_line names predicates s (get_or l s (var 0))
+
+  pub shapes_joined : (l : List Term) (n : ℕ) → n ≤ length l → joined (shape_text l) n ≡ shape_lines names predicates 0 (take n l)
+  shapes_joined l zero h = refl
+  shapes_joined l (suc n) h =
+      let (S, nth) = below_nth l n (omega arith) in
+      ap₂ (λ (x y : List ℕ). x ++ y) (shapes_joined l n (omega arith)) (ap (shape_line names predicates n) (nth_get_d (var 0) nth)) ∙ sym (shapes_more nth)
 
 module _ (p : Program) where
   rows_append : (l m : List Entry) → row_lines p (l ++ m) ≡ row_lines p l ++ row_lines p m
@@ -60,8 +66,15 @@ module _ (p : Program) where
       ap (row_lines p) (nth_take h) ∙ rows_append (take r l) (e ∷ [])
       ∙ ap (λ (x : List ℕ). row_lines p (take r l) ++ x) (append-nil (row_line p e.round e.row))
 
-  pub rows_rest : (r : ℕ) (l : List Entry) → row_lines p (take r l) ++ row_lines p (drop r l) ≡ row_lines p l
-  rows_rest r l = sym (rows_append (take r l) (drop r l)) ∙ ap (row_lines p) (take-append-drop r l)
+  -- row number r of them
+  abbrev pub row_text : List Entry → ℕ → List ℕ
+  row_text l r = let e = get_or l r (record { round = 0; row = call 0 0 }) in row_line p e.round e.row
+
+  pub rows_joined : (l : List Entry) (n : ℕ) → n ≤ length l → joined (row_text l) n ≡ row_lines p (take n l)
+  rows_joined l zero h = refl
+  rows_joined l (suc n) h =
+      let (e, nth) = below_nth l n (omega arith) in
+      ap₂ (λ (x y : List ℕ). x ++ y) (rows_joined l n (omega arith)) (ap (λ (f : Entry). row_line p f.round f.row) (nth_get_d _ nth)) ∙ sym (rows_more nth)
 
 -- five words on, behind the first row's
 behind_row : (e : Entry) (t rest : List ℕ) (j : ℕ) → get_or (entry_words e ++ t ++ rest) (suc (suc (suc (suc (suc j))))) 0 ≡ get_or (t ++ rest) j 0

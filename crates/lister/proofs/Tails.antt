@@ -1,9 +1,11 @@
 -- Lines written one behind another into the tail of the buffer, and what is left once there is no room.
-use Prim.Native.Nat.{ℕ, suc, ◌+◌, ◌-◌, ◌≤◌, ◌<◌}
+use Prim.Native.Nat.{ℕ, zero, suc, ◌+◌, ◌-◌, ◌≤◌, ◌<◌}
 use native.Mathlib.Omega.{arith}
 use native.Mathlib.Nat.{le_refl}
-use mathlib.Core.Path.{◌≡◌, ap, ◌∙◌}
-use mathlib.Core.List.{List, [], ◌++◌, append-nil}
+use mathlib.Core.Path.{◌≡◌, refl, sym, ap, ◌∙◌}
+use mathlib.Core.List.{List, [], ◌++◌, append_assoc, append-nil}
+use native.Mathlib.Decide.{dec_le}
+use Rattle.lister.specs.Joined.{joined}
 use lib.ListN.{length, take, drop, length-drop, drop_of_length-le}
 use lib.Seq.{take_all}
 use borrow.Rule.Slice.PartMut.{put_mid, mid_of, post_of, Post-is, mid_len}
@@ -36,3 +38,12 @@ module _ {s : List ℕ} (out tail : List ℕ) (end r : ℕ) (within : end ≤ le
 
   pub tail_end : end + r ≤ suc (length out)
   tail_end = omega (arith, put_end p (omega arith), put_length p, mid_len end (length out) out (le_refl (length out)))
+
+-- so many texts, and those still to come
+pub joined_rest : (texts : ℕ → List ℕ) (i n : ℕ) → i ≤ n → (rest : List ℕ) × (joined texts n ≡ joined texts i ++ rest)
+joined_rest texts i zero h = let e : i ≡ 0 = omega arith in ([], rw e refl)
+joined_rest texts i (suc n) h = by (dec_le i n) (joined_rest texts i n)
+  where
+    by : Dec (i ≤ n) → (i ≤ n → (rest : List ℕ) × (joined texts n ≡ joined texts i ++ rest)) → (rest : List ℕ) × (joined texts (suc n) ≡ joined texts i ++ rest)
+    by (yes l) before = let (rest, e) = before l in (rest ++ texts n, ap (λ (x : List ℕ). x ++ texts n) e ∙ append_assoc (joined texts i) rest (texts n))
+    by (no l) before = let e : i ≡ suc n = omega arith in ([], rw e (sym (append-nil (joined texts (suc n)))))

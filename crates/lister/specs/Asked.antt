@@ -2,13 +2,11 @@
 use Rattle.std.specs.Prelude.{ℕ, ◌≡◌, length}
 use mathlib.Core.List.{List, ◌++◌, Memᴰ}
 use Rattle.program.specs.Program.{Program}
-use Rattle.program.specs.Faults.{sound, faults}
-use Rattle.directory.specs.Directory.{Directory}
 use Rattle.table.specs.Table.{Entry, table_words}
 use Rattle.table.specs.Keys.{Regular}
 use Rattle.steps.specs.Situation.{Setting}
 use Rattle.cells.specs.TextSoFar.{right}
-use Rattle.lister.specs.ListingPromise.{names_for, Rows}
+use Rattle.lister.specs.ListingPromise.{names_for}
 
 -- the rows of an accepted program in the table, and its directory
 pub record Tabled (dir table : List ℕ) (rows : ℕ) : Type 0 where
@@ -26,17 +24,3 @@ pub record ListingAsked (words dir names table : List ℕ) (rows : ℕ) : Type 0
   pub tabled : Tabled dir table rows
   pub words_are : tabled.words ≡ words
   pub named : names_for tabled.p names ≡ right names
-
--- the program and its names are sound
-pub record SoundBoth (words names : List ℕ) : Type 0 where
-  pub p : Program
-  pub program : faults words ≡ sound p
-  pub named : names_for p names ≡ right names
-
--- the table is filled with so many rows, the directory is the program's, and the listing is still to come
-pub record ListAsked (words dir names table : List ℕ) (rows : ℕ) : Type 0 where
-  pub p : Program
-  pub entries : List Entry
-  pub filled : Rows words names (length table) table p entries
-  pub many : rows ≡ length entries
-  pub directory : Directory words p dir

@@ -2,3 +2,5 @@
 pub mod Listing
 pub mod ListingPromise
 pub mod Asked
+pub mod Joined
+pub mod Left

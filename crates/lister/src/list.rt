@@ -1,79 +1,54 @@
 // The lister: from a program with its names, the table in lent words and its listing in lent bytes.
 ghost use Rattle.std.specs.Prelude.{length};
-ghost use Rattle.lister.specs.ListingPromise.{Refused, ListingPromise};
-ghost use Rattle.lister.specs.Asked.{SoundBoth, ListAsked};
+ghost use Rattle.program.specs.Reply.{replied};
+ghost use Rattle.lister.specs.ListingPromise.{ListingPromise};
+ghost use Rattle.lister.specs.Left.{Left};
 
 use crate::listing::listing;
 use analysis::analyse::tabled;
+use directory::encoded::Encoded;
 use directory::layout::DIR_WORDS;
-use program::reply::{ACCEPTED, NO_ROOM, Reply};
-use program::scan::scan;
-use rows::zeros::zero;
-use terms::walk::wide;
+use program::reply::{Fault, Refusal};
+use program::scan::check;
 use text::put::clear;
-use writer::names::names_reply;
+use writer::names::check_names;
 
-// "Every refusal zeroes all lent output."
-fn refuse(number: u16, place: usize, table: &mut [u16], out: &mut [u8]) -> Reply
-    ensures { Refused (length table.old) (length out.old) number place result table.new out.new }
-{
-    zero(table);
-    clear(out, 0);
-    Reply {
-        number,
-        place,
-        count: 0,
-    }
-}
-
-// The table has its rows: their listing, where it has room.
-fn listed(
+// "After all faults in the words, writer and lister check the names"; "then room (9), .. rows before listing": how many bytes the listing
+// has, which stand at the start of the room.
+fn put_listing(
     words: &[u16],
-    dir: &[u16],
     names: &[u8],
-    rows: usize,
     table: &mut [u16],
     out: &mut [u8],
-) -> Reply
-    requires { ListAsked words.now dir.now names.now table.old rows }
-    ensures { ListingPromise words.now names.now (length table.old) (length out.old) result table.new out.new }
+) -> Result<usize, Fault>
+    ensures { Left words.now names.now (length table.old) (length out.old) result table.new out.new }
 {
-    let size = listing(words, dir, names, table, rows, out);
-    if out.len() < size {
-        return refuse(NO_ROOM, out.len(), table, out);
-    }
-    clear(out, size);
-    Reply {
-        number: ACCEPTED,
-        place: 0,
-        count: size,
-    }
-}
-
-// Words and names are sound: the table of the program, where it has room, and its listing by the same directory.
-fn accepted(words: &[u16], names: &[u8], table: &mut [u16], out: &mut [u8]) -> Reply
-    requires { SoundBoth words.now names.now }
-    ensures { ListingPromise words.now names.now (length table.old) (length out.old) result table.new out.new }
-{
+    check(words)?;
+    check_names(names, usize::from(words[0]), usize::from(words[1]))?;
     let mut dir = [0u16; DIR_WORDS];
-    let analysed = tabled(words, &mut dir, table);
-    if analysed.number != ACCEPTED {
-        return refuse(analysed.number, analysed.place, table, out);
+    let rows = tabled(words, &mut dir, table)?;
+    let size = listing(&Encoded { words, dir: &dir }, names, table, rows, out);
+    if out.len() < size {
+        return Err(Fault {
+            refusal: Refusal::NoRoom,
+            place: out.len(),
+        });
     }
-    listed(words, &dir, names, analysed.count, table, out)
+    Ok(size)
 }
 
-// "After all faults in the words, writer and lister check the names"; "then room (9), .. rows before listing".
-pub fn list(words: &[u16], names: &[u8], table: &mut [u16], out: &mut [u8]) -> Reply
-    ensures { ListingPromise words.now names.now (length table.old) (length out.old) result table.new out.new }
+// The table of a program and its listing: how many bytes, or why it is refused, and every lent word and byte after.
+pub fn list(words: &[u16], names: &[u8], table: &mut [u16], out: &mut [u8]) -> Result<usize, Fault>
+    ensures { ListingPromise words.now names.now (length table.old) (length out.old) (replied result) table.new out.new }
 {
-    let scanned = scan(words);
-    if scanned.number != ACCEPTED {
-        return refuse(scanned.number, scanned.place, table, out);
+    let answer = put_listing(words, names, table, out);
+    // "lent output past what was written is 0. Every refusal zeroes all lent output."
+    match answer {
+        Ok(size) => clear(out, size),
+        Err(_) => {
+            table.fill(0);
+            clear(out, 0);
+        }
     }
-    let named = names_reply(names, wide(words[0]), wide(words[1]));
-    if named.number != ACCEPTED {
-        return refuse(named.number, named.place, table, out);
-    }
-    accepted(words, names, table, out)
+    answer
 }

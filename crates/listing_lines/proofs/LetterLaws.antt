@@ -32,7 +32,7 @@ both true b h k = (λ t. (h.0 tt, k.0 t), λ (x, y). k.1 y)
 both false b h k = (λ t. absurd t, λ (x, y). h.1 x)
 
 -- tests that say the same are the same
-same_test : (a b : Bool) → T a ↔ T b → a ≡ b
+pub same_test : (a b : Bool) → T a ↔ T b → a ≡ b
 same_test true true h = refl
 same_test false false h = refl
 same_test true false h = absurd (h.0 tt)
@@ -56,7 +56,7 @@ is_listed_law c i v =
     both (occurs_in_one (c.head ∷ take i c.body) v) (occurs_in_one (c.head ∷ drop i c.body) v)
     (occurs_in_one_law (c.head ∷ take i c.body) v) (occurs_in_one_law (c.head ∷ drop i c.body) v)
 
-in_set_law : (set v : ℕ) → T (in_set set v) ↔ Has set v
+pub in_set_law : (set v : ℕ) → T (in_set set v) ↔ Has set v
 in_set_law set v = (eqb→eq (mark_of set v) grounded, λ e. rw e tt)
 
 letters_same : (has has' : ℕ → Bool) (mask n : ℕ) → ((v : ℕ) → has v ≡ has' v) → letters_below has mask n ≡ letters_below has' mask n

@@ -3,13 +3,16 @@ use Prim.Native.Nat.{ℕ, suc, ◌+◌, ◌-◌, ◌*◌, ◌≤◌, ◌<◌}
 use native.Mathlib.Omega.{arith}
 use mathlib.Core.Path.{◌≡◌, sym, ap, ◌∙◌}
 use mathlib.Core.Logic.Iff
-use mathlib.Core.Logic.{◌↔◌}
+use mathlib.Core.Logic.{◌⊎◌, inl, inr, ◌↔◌}
 use mathlib.Core.List.{List, [], ◌∷◌, ◌++◌, append_assoc, append-nil}
 use lib.ListN.{length, get_or}
 use Rattle.terms.specs.Term.{Term, Occ}
 use Rattle.terms.specs.Cells.{variables}
 use Rattle.terms.specs.Mask.{Marks}
 use Rattle.terms.proofs.Masks.{marks_for}
+use Rattle.program.specs.declared.kind.Kind.{Kind}
+use Rattle.program.specs.declared.kind.Kind.TheVariants.{Call, Solution}
+use Rattle.program.specs.Kinds.{word_of}
 use Rattle.program.specs.Program.{Nth, Clause, Program}
 use Rattle.program.specs.Shapes.{shapes, Listed}
 use Rattle.program.specs.Limits.{row_size, max_shapes}
@@ -123,6 +126,17 @@ module _ {dir : List ℕ} {kind a b : ℕ} (w : AboutRow dir kind a b) where
 abbrev pub about_row : {dir table : List ℕ} {r : ℕ} → RowIn dir table r
     → AboutRow dir (get_or table (row_size * r + 1) 0) (get_or table (row_size * r + 2) 0) (get_or table (row_size * r + 3) 0)
 about_row w = record { words = w.words; p = w.p; setting = w.setting; row = w.row; regular = w.regular; mask = _; row_is = w.row_is }
+
+-- the number of a call or of a solution is not a cont's
+pub no_cont : (kind : Kind) → (kind ≡ Call) ⊎ (kind ≡ Solution) → word_of kind ≡ 2 → ⊥
+no_cont kind (inl e) two = let one_two : ◌≡◌ {A = ℕ} 1 2 = rw e at two in omega (arith, one_two)
+no_cont kind (inr e) two = let three_two : ◌≡◌ {A = ℕ} 3 2 = rw e at two in omega (arith, three_two)
+
+-- the kind of a row's words is one of the three
+pub kind_known : {kind a b mask : ℕ} (row : Row ℕ) → row_words row ≡ kind ∷ a ∷ b ∷ mask ∷ [] → (1 ≤ kind) × (kind ≤ 3)
+kind_known {kind} (call s M) e = let k : kind ≡ 1 = cc in (omega (arith, k), omega (arith, k))
+kind_known {kind} (cont n i M) e = let k : kind ≡ 2 = cc in (omega (arith, k), omega (arith, k))
+kind_known {kind} (solution s M) e = let k : kind ≡ 3 = cc in (omega (arith, k), omega (arith, k))
 
 -- the fields of a row's line, one behind another
 pub three_fields : (word a b c : List ℕ) → word ++ (tab ∷ a ++ (tab ∷ b ++ (tab ∷ c ++ line_feed ∷ []))) ≡ line word (a ∷ b ∷ c ∷ [])

@@ -58,10 +58,8 @@ module _ {words dir names : List ℕ} {s : ℕ} (w : ShapeAsked words dir names 
     pub shape_named : Named names (length predicates) (length functions_part)
     shape_named = rw (predicates_said, functions_said) w.spoken.named
 
-    -- the tokens of a shape have no modes
+    -- and its tokens are the shape's
     pub shape_put : {rest before after : List ℕ} {end : ℕ} {r : Walked}
-        → Written (behind_tabs (atom_tokens names (length predicates) (take (clauses - clauses) (drop clauses words)) (enc w.S))) rest dir before after end r
+        → Written (behind_tabs (atom_tokens names (length predicates) [] (enc w.S))) rest dir before after end r
         → Put (behind_tabs (atom_tokens names (length w.spoken.p.predicates) [] (enc w.S))) before after end r.end
-    shape_put {before = before} {after = after} {end = end} {r = r} written =
-        let none : take (clauses - clauses) (drop clauses words) ≡ [] = let z : clauses - clauses ≡ 0 = omega arith in rw z in
-        rw (predicates_said, none) at written.put
+    shape_put written = rw predicates_said at written.put

@@ -4,37 +4,30 @@ ghost use Rattle.text.specs.Put.{Put};
 ghost use Rattle.listing_lines.specs.Letters.{letter, letters_of};
 ghost use Rattle.listing_lines.specs.Set.{in_set};
 
-use text::bytes::LOWER_A;
+use terms::walk::has;
 use text::put::put_byte;
 
-const LOWER_G: u8 = 103;
-
-const DASH: u8 = 45;
-
 // "v is at most 15"
-const VARIABLES: u16 = 16;
+const VARIABLES: usize = 16;
 
 // Whether bit v is set.
-fn is_in(set: u16, v: u16) -> bool
+fn is_in(set: u16, v: usize) -> bool
     requires { v < 16 }
     ensures { result ≡ in_set set v }
 {
-    (set >> v) % 2 == 1
+    has(u32::from(set), v)
 }
 
 // "A mask has bit v set where variable v is ground."
-fn letter_of(mask: u16, v: u16) -> u8
+fn letter_of(mask: u16, v: usize) -> u8
     requires { v < 16 }
     ensures { result ≡ letter mask v }
 {
-    if is_in(mask, v) {
-        return LOWER_G;
-    }
-    LOWER_A
+    if is_in(mask, v) { b'g' } else { b'a' }
 }
 
 // The letter of variable v, where it is in the set.
-fn put_letter(out: &mut [u8], at: usize, set: u16, mask: u16, v: u16) -> usize
+fn put_letter(out: &mut [u8], at: usize, set: u16, mask: u16, v: usize) -> usize
     requires { v < 16 }
     ensures { Put (cond (in_set set v) (letter mask v ∷ []) []) out.old out.new at result }
 {
@@ -49,13 +42,11 @@ pub fn put_letters(out: &mut [u8], at: usize, set: u16, mask: u16) -> usize
     ensures { Put (letters_of (in_set set) mask) out.old out.new at result }
 {
     if set == 0 {
-        return put_byte(out, at, DASH);
+        return put_byte(out, at, b'-');
     }
     let mut end = at;
-    let mut v = 0;
-    while v < VARIABLES {
+    for v in 0..VARIABLES {
         end = put_letter(out, end, set, mask, v);
-        v += 1;
     }
     end
 }

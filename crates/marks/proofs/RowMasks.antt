@@ -5,12 +5,17 @@ use native.Mathlib.Decide.{dec_lt}
 use mathlib.Core.Path.{◌≡◌, refl, sym, subst, ◌∙◌, ap}
 use mathlib.Core.Logic.{◌⊎◌, inl, inr, ⊎_elim}
 use mathlib.Core.List.{List}
-use lib.ListN.{get_or}
+use lib.ListN.{get_or, length, take}
+use Rattle.std.proofs.lemmas.List.{get_or-take, length-take}
 use lib.Bits.{bit_or}
 use Rattle.terms.specs.Term.{Term, Occ}
 use Rattle.terms.specs.Mask.{Has, Marks}
 use Rattle.terms.proofs.Masks.{has_none, has_or, has_one}
 use Rattle.marks.specs.Modes.{KeptTo, Renumbered, Reordered, Restored, InOrder}
+
+-- what stands in the list's first part
+pub in_first : (order : List ℕ) (count k : ℕ) → k < length (take count order) → get_or (take count order) k 0 ≡ get_or order k 0
+in_first order count k l = get_or-take count order k 0 (omega (arith, l, length-take count order))
 
 -- a list's mask keeps what the list keeps
 pub kept_by_list : {P : ℕ → Type 0} (list M R : ℕ) → Marks P list → KeptTo (Has list) M R → KeptTo P M R

@@ -13,11 +13,12 @@ pub fn known(sets: &[u32; 32], base: usize, mask: u16, present: u16) -> u32
 {
     let mut left = mask & present;
     let mut all = 0u32;
+    // From each variable of the mask to the next: a `for` over all 16 would also turn for those that are not in it, and is slower.
     while 0 < left {
         let x = lowest(left);
         let at = base + x;
-        all = all | sets[at];
-        left = left - mark(x);
+        all |= sets[at];
+        left -= mark(x);
     }
     all
 }
@@ -38,15 +39,16 @@ pub fn pass_on(
     let ground_by = known(sets, from, m, here);
     let mut left = there ^ (there & n);
     let mut ground = 0u16;
+    // From each variable of the mask to the next: a `for` over all 16 would also turn for those that are not in it, and is slower.
     while 0 < left {
         let y = lowest(left);
         let bit = mark(y);
         let at = to + y;
         let set = sets[at];
         if set & ground_by == set {
-            ground = ground | bit;
+            ground |= bit;
         }
-        left = left - bit;
+        left -= bit;
     }
     n | ground
 }

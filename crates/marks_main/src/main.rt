@@ -2,7 +2,7 @@
 #![tactic(auto)]
 
 use marks::pass::pass_on;
-use marks::rows::{kept, renumber, together};
+use marks::rows::{Order, kept, renumber, together};
 use std::io;
 
 // Where the sets of atom A begin, and those of atom B.
@@ -71,11 +71,19 @@ fn most_variables(rt: &impl Print) -> io::Result<()> {
 fn rows(rt: &impl Print) -> io::Result<()> {
     print(rt, together(5, 3))?;
     print(rt, kept(6, 3))?;
-    let mut order = [0u8; 16];
-    order[0] = 5;
-    order[1] = 15;
-    print(rt, renumber(&order, 3, 0x8001))?;
-    print(rt, renumber(&order, 0, 0xffff))
+    let mut variables = [0u8; 16];
+    variables[0] = 5;
+    variables[1] = 15;
+    let three = Order {
+        variables,
+        count: 3,
+    };
+    let none = Order {
+        variables,
+        count: 0,
+    };
+    print(rt, renumber(&three, 0x8001))?;
+    print(rt, renumber(&none, 0xffff))
 }
 
 fn main(rt: HostRuntime) -> io::Result<()> {

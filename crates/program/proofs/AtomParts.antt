@@ -1,65 +1,42 @@
--- How the code's answers for atoms go together.
-use Prim.Native.Nat.{ℕ, zero, suc, ◌-◌, ◌≤◌, ◌<◌}
-use native.Mathlib.Omega.{arith}
-use mathlib.Core.Path.{◌≡◌, refl, sym}
+-- How the code's answers for atoms that follow one another go together.
+use Prim.Native.Nat.{ℕ, suc}
+use mathlib.Core.Path.{◌≡◌}
 use mathlib.Core.List.{List, ◌∷◌}
-use lib.ListN.{length, drop, get_or, drop_of_length-le}
-use borrow.Author.Tests.{lt-ltb, le-ltb}
-use Rattle.terms.specs.Term.{app}
-use Rattle.terms.specs.declared.cursor.Cursor.{Cursor}
-use Rattle.program.specs.Reply.{too_soon, undeclared}
+use Rattle.std.specs.Prelude.{Result, Ok, Err}
 use Rattle.program.specs.Reading.{right, next}
-use Rattle.program.specs.Atoms.{terms, atom, atoms}
-use Rattle.program.specs.Part.{Meets, met}
-use Rattle.program.specs.declared.part.Part.{Part}
-use Rattle.program.specs.declared.part.Part.TheVariants.{Fault, Next}
-use Rattle.program.proofs.Parts.{Stands, from_here, meets_fault, meets_next, meets_map}
+use Rattle.program.specs.Atoms.{atom, atoms}
+use Rattle.program.specs.declared.reply.Fault.{Fault}
+use Rattle.program.specs.declared.part.Place.{Place}
+use Rattle.program.specs.Part.{Meets, Met, Ends, left}
+use Rattle.program.proofs.Parts.{meets_same, meets_fault, meets_next, meets_map, meets_holds}
 
-module _ (words predicates functions : List ℕ) where
-  pub atom_end : (seen at : ℕ) → at ≤ length words → length words ≤ at
-      → Meets words met (Fault too_soon at) (atom predicates functions seen (drop at words))
-  unfolding atom
-  atom_end seen at h l = rw (drop_of_length-le words l) (refl, h, sym (drop_of_length-le words l))
+-- At a place on the way from another one so many atoms are left, with so many variables met: the answer for those is the answer for all.
+abbrev pub OnwardAtoms : List ℕ → List ℕ → List ℕ → Place → ℕ → ℕ → Place → ℕ → ℕ → Type 0
+OnwardAtoms words predicates functions from count seen at n known = (at.words.now ≡ words)
+    × ((r : Result Place Fault) → Meets words Ends r (atoms predicates functions n known (left at)) → Meets words Ends r (atoms predicates functions count seen (left from)))
 
-  pub atom_undeclared : (seen at w : ℕ) (after : Cursor) → Stands words at w after → length predicates ≤ w
-      → Meets words met (Fault undeclared at) (atom predicates functions seen (drop at words))
-  unfolding atom
-  atom_undeclared seen at w after s h =
-      rw (from_here words s, le-ltb w (length predicates) h) (refl, omega (arith, s.inside), sym (from_here words s))
-
-  -- behind its predicate, the answer is that for the predicate's arguments
-  pub atom_terms : (seen at w : ℕ) (after : Cursor) (r : Part) → Stands words at w after → w < length predicates
-      → Meets words met r (terms functions (drop after.at words) (get_or predicates w 0) 1 seen)
-      → Meets words met r (atom predicates functions seen (drop at words))
-  unfolding atom
-  atom_terms seen at w after r s h m =
-      rw (from_here words s, lt-ltb w (length predicates) h)
-      (meets_map words met met r (terms functions (drop after.at words) (get_or predicates w 0) 1 seen) (λ x. (app w x.0, x.1)) (λ _. refl) m)
-
-  pub atoms_none : (left seen : ℕ) (at : Cursor) → left ≤ 0 → at.at ≤ length words
-      → Meets words met (Next seen at) (atoms predicates functions left seen (drop at.at words))
+module _ (words predicates functions : List ℕ) (from : Place) (count seen : ℕ) (at : Place) (n m known : ℕ) (more : n ≡ suc m)
+    (on : OnwardAtoms words predicates functions from count seen at n known) where
+  pub atoms_fault : (e : Fault) → Meets at.words.now Met (Err e) (atom predicates functions known (left at))
+      → Meets words Ends (Err e) (atoms predicates functions count seen (left from))
   unfolding atoms
-  atoms_none zero seen at z h = (refl, h, refl)
-  atoms_none (suc left) seen at z h = absurd (omega arith)
+  atoms_fault e h =
+      on.1 (Err e)
+      (rw more
+      (meets_fault words Met Ends e (atom predicates functions known (left at))
+      (λ a rest. next (atoms predicates functions m a.1 rest) (λ r rest'. right (a.0 ∷ r.0, r.1) rest'))
+      (meets_same Met (Err e) (atom predicates functions known (left at)) on.0 h)))
 
-  pub atoms_fault : (left seen n p : ℕ) (ws : List ℕ) → 0 < left → Meets words met (Fault n p) (atom predicates functions seen ws)
-      → Meets words met (Fault n p) (atoms predicates functions left seen ws)
+  -- past an atom
+  pub atoms_next : (now : ℕ) (after : Place) → Meets at.words.now Met (Ok (now, after)) (atom predicates functions known (left at))
+      → OnwardAtoms words predicates functions from count seen after m now
   unfolding atoms
-  atoms_fault zero seen n p ws h m = absurd (omega arith)
-  atoms_fault (suc left) seen n p ws h m =
-      meets_fault words met met n p (atom predicates functions seen ws)
-      (λ a rest. next (atoms predicates functions left a.1 rest) (λ r rest'. right (a.0 ∷ r.0, r.1) rest')) m
-
-  -- past an atom, the answer is that for the others, with the variables met so far
-  pub atoms_next : (left seen v : ℕ) (after : Cursor) (ws : List ℕ) (r : Part) → 0 < left
-      → Meets words met (Next v after) (atom predicates functions seen ws)
-      → Meets words met r (atoms predicates functions (left - 1) v (drop after.at words))
-      → Meets words met r (atoms predicates functions left seen ws)
-  unfolding atoms
-  atoms_next zero seen v after ws r h m q = absurd (omega arith)
-  atoms_next (suc left) seen v after ws r h m q =
-      let less : suc left - 1 ≡ left = omega arith in
-      meets_next words met met v after r (atom predicates functions seen ws)
-      (λ a rest. next (atoms predicates functions left a.1 rest) (λ x rest'. right (a.0 ∷ x.0, x.1) rest')) m
-      (λ a e. meets_map words met met r (atoms predicates functions left a.1 (drop after.at words)) (λ x. (a.0 ∷ x.0, x.1)) (λ _. refl)
-      (rw (less, e) at q))
+  atoms_next now after h =
+      let same = meets_same Met (Ok (now, after)) (atom predicates functions known (left at)) on.0 h in (
+        meets_holds words Met (now, after) (atom predicates functions known (left at)) (λ a rest has. has.1.0) same,
+        λ r q. on.1 r
+            (rw more
+            (meets_next words Met Ends (now, after) r (atom predicates functions known (left at))
+            (λ a rest. next (atoms predicates functions m a.1 rest) (λ x rest'. right (a.0 ∷ x.0, x.1) rest')) same
+            (λ a rest has. meets_map words Ends Ends r (atoms predicates functions m a.1 rest) (λ x. (a.0 ∷ x.0, x.1)) (λ v b rest' e. e) (rw (has.1.1, ← has.0) q)))),
+      )

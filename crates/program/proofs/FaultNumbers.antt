@@ -10,12 +10,10 @@ use Rattle.terms.specs.Cells.{first_variable, atom_cells, pick}
 use Rattle.program.specs.Limits.{max_words, max_variable, min_predicates, max_declared, max_arity, max_body, any_mode, ground_mode}
 use Rattle.program.specs.Reply.{out_of_range, bad_goal, bad_variable, long_atom, undeclared, too_long, no_room, withdrawn}
 use Rattle.program.specs.Reading.{Decoded, wrong, right, next, bounded, several}
-use Rattle.program.specs.Atoms.{meet, variable_of, symbol_of, cell_of, opened, terms, atom, atoms}
+use Rattle.program.specs.Atoms.{Cell, Bad, Opens, meet, variable_of, symbol_of, cell_of, opened, terms, atom, atoms}
 use Rattle.program.specs.Program.{Program}
 use Rattle.program.specs.Faults.{clause, goal, ended, arities, written, declared, whole, Found, fault, sound, found_in, faults, reply_of}
 use Rattle.program.specs.declared.reply.Reply.{Reply}
-use Rattle.program.specs.declared.cells.Cell.{Cell}
-use Rattle.program.specs.declared.cells.Cell.TheVariants.{Bad, Opens}
 use Rattle.program.proofs.Taking.{pick_cases}
 
 -- the number of a fault of the input, a program or a text

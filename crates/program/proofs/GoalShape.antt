@@ -13,12 +13,10 @@ use Rattle.terms.specs.Cells.{first_variable, atom_cells, take_terms, drop_terms
 use Rattle.program.specs.Limits.{max_words, max_variable, min_predicates, max_declared, any_mode, ground_mode}
 use Rattle.program.specs.Reply.{out_of_range, bad_goal, bad_variable, long_atom, undeclared, too_long}
 use Rattle.program.specs.Reading.{Decoded, wrong, right, next, bounded, several}
-use Rattle.program.specs.Atoms.{meet, variable_of, symbol_of, cell_of, opened, terms, atom}
+use Rattle.program.specs.Atoms.{Cell, Bad, Opens, meet, variable_of, symbol_of, cell_of, opened, terms, atom}
 use Rattle.program.specs.Faults.{goal, ended, arities, clause, written, declared, whole, Found, fault, sound, found_in, faults}
 use Rattle.program.specs.Program.{Program}
 use Rattle.program.specs.Shapes.{with, met, mets, shape_of}
-use Rattle.program.specs.declared.cells.Cell.{Cell}
-use Rattle.program.specs.declared.cells.Cell.TheVariants.{Bad, Opens}
 use Rattle.program.proofs.Taking.{pick_cases}
 use Rattle.program.proofs.OwnShape.{up_to, with_up_to_old, with_up_to_next, own_shape}
 

@@ -7,11 +7,10 @@ pub mod ShapeLaws
 pub mod Parts
 pub mod Taking
 pub mod AtomParts
-pub mod ClauseParts
+pub mod ArityParts
 pub mod OwnShape
 pub mod GoalShape
 pub mod Words
-pub mod WholeParts
 pub mod TermWords
 pub mod WordsOfTerms
 pub mod AtomWords
@@ -20,5 +19,6 @@ pub mod ClauseWords
 pub mod ProgramWords
 pub mod FaultNumbers
 pub mod FoundLaws
+pub mod Checks
 pub mod Once
 pub mod ShapeOrder

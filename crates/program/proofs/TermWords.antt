@@ -12,10 +12,8 @@ use Rattle.terms.proofs.Runs.{encs_split, count_take, count_drop, keeps_take, ke
 use Rattle.program.specs.Limits.{max_variable}
 use Rattle.program.specs.Reply.{too_soon, undeclared, bad_variable, long_atom}
 use Rattle.program.specs.Reading.{Decoded, wrong, right}
-use Rattle.program.specs.Atoms.{meet, variable_of, symbol_of, cell_of, build, opened, terms}
+use Rattle.program.specs.Atoms.{Cell, Bad, Opens, meet, variable_of, symbol_of, cell_of, build, opened, terms}
 use Rattle.program.specs.Within.{after, afters, Numbereds}
-use Rattle.program.specs.declared.cells.Cell.{Cell}
-use Rattle.program.specs.declared.cells.Cell.TheVariants.{Bad, Opens}
 use Rattle.program.proofs.Taking.{pick_cases, terms_cell, no_terms}
 use Rattle.program.proofs.Words.{next_right}
 

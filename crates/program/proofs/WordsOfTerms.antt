@@ -11,9 +11,8 @@ use Rattle.terms.specs.Cells.{enc, encs, Keeps, Keepss, atom_cells, first_variab
 use Rattle.terms.proofs.Runs.{take_join, drop_join, join_nil}
 use Rattle.program.specs.Limits.{max_variable}
 use Rattle.program.specs.Reading.{Decoded, wrong, right, next}
-use Rattle.program.specs.Atoms.{meet, cell_of, build, terms}
+use Rattle.program.specs.Atoms.{Opens, meet, cell_of, build, terms}
 use Rattle.program.specs.Within.{after, afters, Numbered, Numbereds}
-use Rattle.program.specs.declared.cells.Cell.TheVariants.{Opens}
 use Rattle.program.proofs.Taking.{terms_cell, no_terms}
 
 pub function_opens : (functions : List ℕ) (taken seen w : ℕ) → taken < atom_cells → w < first_variable → w < length functions

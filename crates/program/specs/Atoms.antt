@@ -5,8 +5,13 @@ use Rattle.terms.specs.Cells.{first_variable, atom_cells, take_terms, drop_terms
 use Rattle.program.specs.Limits.{max_variable}
 use Rattle.program.specs.Reply.{too_soon, undeclared, bad_variable, long_atom}
 use Rattle.program.specs.Reading.{Decoded, wrong, right, next}
-use Rattle.program.specs.declared.cells.Cell.{Cell}
-use Rattle.program.specs.declared.cells.Cell.TheVariants.{Bad, Opens}
+
+-- what a cell of an atom comes to
+pub data Cell : Type 0 where
+  -- the number of its fault
+  Bad : ℕ → Cell
+  -- how many terms it asks for, and how many variables are met after it
+  Opens : ℕ → ℕ → Cell
 
 -- how many variables are met after variable v, where so many were met before
 abbrev pub meet : ℕ → ℕ → ℕ

@@ -9,3 +9,4 @@ pub mod Part
 pub mod Faults
 pub mod Within
 pub mod Shapes
+pub mod Kinds

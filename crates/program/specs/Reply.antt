@@ -1,6 +1,9 @@
 -- Replies: "A reply is a number, a place, and a count of what was written". The numbers of document 01's table, by name.
-use Rattle.std.specs.Prelude.{ℕ}
+use Rattle.std.specs.Prelude.{ℕ, Result, Ok, Err, ⊤}
 use Rattle.program.specs.declared.reply.Reply.{Reply}
+use Rattle.program.specs.declared.reply.Refusal.{Refusal}
+use Rattle.program.specs.declared.reply.Refusal.TheVariants.{TooSoon, OutOfRange, Undeclared, BadVariable, LongAtom, BadGoal, Follows, TooLong, NoRoom, IllFormed, BadName, BothModes}
+use Rattle.program.specs.declared.reply.Fault.{Fault}
 
 -- "Accepted is number 0 with place 0"
 abbrev pub accepted : ℕ
@@ -65,3 +68,28 @@ refused number place = record { number = number; place = place; count = 0 }
 -- "Accepted is number 0 with place 0": how much was written is all there is to say
 abbrev pub done : ℕ → Reply
 done count = record { number = accepted; place = 0; count = count }
+
+-- the number of a refusal
+abbrev pub number_of : Refusal → ℕ
+number_of TooSoon = too_soon
+number_of OutOfRange = out_of_range
+number_of Undeclared = undeclared
+number_of BadVariable = bad_variable
+number_of LongAtom = long_atom
+number_of BadGoal = bad_goal
+number_of Follows = follows
+number_of TooLong = too_long
+number_of NoRoom = no_room
+number_of IllFormed = ill_formed
+number_of BadName = bad_name
+number_of BothModes = both_modes
+
+-- what an input came to, as a reply: how much was written, or the fault
+abbrev pub replied : Result ℕ Fault → Reply
+replied (Ok count) = done count
+replied (Err fault) = refused (number_of fault.refusal) fault.place
+
+-- the same of an input of which nothing is written
+abbrev pub scanned : Result ⊤ Fault → Reply
+scanned (Ok read) = done 0
+scanned (Err fault) = refused (number_of fault.refusal) fault.place

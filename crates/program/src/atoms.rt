@@ -1,78 +1,67 @@
 // Atoms in the words: each read cell by cell, the variables met going from atom to atom.
-ghost use Rattle.std.specs.Prelude.{◌≡◌, ◌≤◌, ◌<◌, length, drop};
 ghost use Rattle.program.specs.Atoms.{terms, atom, atoms};
-ghost use Rattle.program.specs.Part.{Meets, met};
+ghost use Rattle.program.specs.Part.{Meets, Met, Ends, left};
 
-use crate::cells::{Taken, take};
-use crate::part::{Part, wide};
-use crate::reply::{TOO_SOON, UNDECLARED};
-use terms::cursor::{Cursor, Step};
+use crate::cells::take;
+use crate::part::Place;
+use crate::reply::{Fault, Refusal};
+
+// The arities of the predicates and of the functions, by number.
+#[derive(Clone, Copy)]
+pub struct Arities<'a> {
+    pub predicates: &'a [u16],
+    pub functions: &'a [u16],
+}
 
 // So many terms, behind the first cell of an atom.
-fn terms(words: &[u16], from: Cursor, functions: &[u16], asked: usize, seen: usize) -> Part
-    requires { (from.at ≤ length words.now) × (asked < 65536) }
-    ensures { Meets words.now met result (terms functions.now (drop from.at words.now) asked 1 seen) }
+fn terms<'a>(
+    from: Place<'a>,
+    functions: &[u16],
+    asked: u16,
+    seen: usize,
+) -> Result<(usize, Place<'a>), Fault>
+    ensures { Meets from.entry.words.now Met result (terms functions.now (left from.entry) asked 1 seen) }
 {
     let mut at = from;
-    let mut left = asked;
+    let mut left = usize::from(asked);
     let mut taken = 1;
     let mut known = seen;
+    // Each cell that is taken asks for terms of its own, so how many are left is not known before.
     while 0 < left {
-        match take(words, at, functions, taken, known) {
-            Taken::Fault(number, place) => return Part::Fault(number, place),
-            Taken::Opens(arity, after, next) => {
-                at = next;
-                left = arity + (left - 1);
-                taken += 1;
-                known = after;
-            }
-        }
+        let (opened, next) = take(at, functions, taken, known)?;
+        at = next;
+        left = usize::from(opened.arity) + (left - 1);
+        taken += 1;
+        known = opened.met;
     }
-    Part::Next(known, at)
+    Ok((known, at))
 }
 
-// "a predicate number below P, then its argument terms"
-pub fn atom(words: &[u16], from: Cursor, predicates: &[u16], functions: &[u16], seen: usize) -> Part
-    requires { from.at ≤ length words.now }
-    ensures { Meets words.now met result (atom predicates.now functions.now seen (drop from.at words.now)) }
-{
-    let at = from.at;
-    match from.step(words) {
-        Step::End => Part::Fault(TOO_SOON, at),
-        Step::Cell(w, next) => {
-            let p = wide(w);
-            if predicates.len() <= p {
-                return Part::Fault(UNDECLARED, at);
-            }
-            terms(words, next, functions, wide(predicates[p]), seen)
-        }
+impl Arities<'_> {
+    // "a predicate number below P, then its argument terms"
+    #[tactic(auto, unfolding(crate::specs::Atoms::atom))]
+    pub fn atom<'a>(self, from: Place<'a>, seen: usize) -> Result<(usize, Place<'a>), Fault>
+        ensures { Meets from.entry.words.now Met result
+            (atom self.entry.predicates.now self.entry.functions.now seen (left from.entry)) }
+    {
+        let (p, next) = from.word()?;
+        let arity = self.predicates.get(usize::from(p));
+        let arity = *arity.ok_or(from.refused(Refusal::Undeclared))?;
+        terms(next, self.functions, arity, seen)
     }
-}
 
-// So many atoms, one after another.
-pub fn atoms(
-    words: &[u16],
-    from: Cursor,
-    predicates: &[u16],
-    functions: &[u16],
-    count: usize,
-    seen: usize,
-) -> Part
-    requires { from.at ≤ length words.now }
-    ensures { Meets words.now met result (atoms predicates.now functions.now count seen (drop from.at words.now)) }
-{
-    let mut at = from;
-    let mut left = count;
-    let mut known = seen;
-    while 0 < left {
-        match atom(words, at, predicates, functions, known) {
-            Part::Fault(number, place) => return Part::Fault(number, place),
-            Part::Next(after, next) => {
-                at = next;
-                left -= 1;
-                known = after;
-            }
+    // So many atoms, one after another.
+    pub fn atoms<'a>(self, from: Place<'a>, count: usize, seen: usize) -> Result<Place<'a>, Fault>
+        ensures { Meets from.entry.words.now Ends result
+            (atoms self.entry.predicates.now self.entry.functions.now count seen (left from.entry)) }
+    {
+        let mut at = from;
+        let mut known = seen;
+        for _ in 0..count {
+            let (met, next) = self.atom(at, known)?;
+            known = met;
+            at = next;
         }
+        Ok(at)
     }
-    Part::Next(known, at)
 }

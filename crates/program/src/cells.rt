@@ -1,74 +1,59 @@
 // The cells of an atom: their faults, and how many terms each asks for.
-ghost use Rattle.std.specs.Prelude.{◌≡◌};
-ghost use Rattle.program.specs.Atoms.{variable_of, symbol_of, cell_of};
-ghost use Rattle.program.specs.Part.{taken_at};
+ghost use Rattle.program.specs.Atoms.{variable_of, symbol_of};
+ghost use Rattle.program.specs.Part.{CellAs, Meets, Asks, left, next_cell};
 
 use crate::limits::{ATOM_CELLS, MAX_VARIABLE};
-use crate::part::wide;
-use crate::reply::{BAD_VARIABLE, LONG_ATOM, TOO_SOON, UNDECLARED};
-use terms::cursor::{Cursor, Step};
+use crate::part::Place;
+use crate::reply::{Fault, Refusal};
 use terms::walk::FIRST_VARIABLE;
 
-#[derive(Drop)]
-pub enum Cell {
-    // the fault's number
-    Bad(u16),
-    // how many terms the cell asks for, and the variables met after it
-    Opens(usize, usize),
-}
-
-// A cell that was read, with the place after it, or the fault and its place.
-#[derive(Drop)]
-pub enum Taken {
-    Fault(u16, usize),
-    Opens(usize, usize, Cursor),
+// What a cell opens: how many terms it asks for, and how many variables are met after it.
+#[derive(Clone, Copy)]
+pub struct Opened {
+    pub arity: u16,
+    pub met: usize,
 }
 
 // "a variable is above 15 or skips a number"
-fn variable_of(seen: usize, v: usize) -> Cell
-    ensures { result ≡ variable_of seen v }
+fn variable_of(seen: usize, v: usize) -> Result<Opened, Refusal>
+    ensures { CellAs result (variable_of seen v) }
 {
-    if MAX_VARIABLE < v {
-        return Cell::Bad(BAD_VARIABLE);
+    if MAX_VARIABLE < v || seen < v {
+        return Err(Refusal::BadVariable);
     }
-    if seen < v {
-        return Cell::Bad(BAD_VARIABLE);
-    }
-    if v < seen {
-        return Cell::Opens(0, seen);
-    }
-    Cell::Opens(0, v + 1)
+    Ok(Opened {
+        arity: 0,
+        met: seen.max(v + 1),
+    })
 }
 
 // "A term is a function number below F with its arguments, or a variable, 32768 + v."
-fn symbol_of(functions: &[u16], seen: usize, w: u16) -> Cell
-    ensures { result ≡ symbol_of functions.now seen w }
+fn symbol_of(functions: &[u16], seen: usize, w: u16) -> Result<Opened, Refusal>
+    ensures { CellAs result (symbol_of functions.now seen w) }
 {
     if FIRST_VARIABLE <= w {
-        return variable_of(seen, wide(w - FIRST_VARIABLE));
+        return variable_of(seen, usize::from(w - FIRST_VARIABLE));
     }
-    let f = wide(w);
-    if functions.len() <= f {
-        return Cell::Bad(UNDECLARED);
-    }
-    Cell::Opens(wide(functions[f]), seen)
+    let arity = *functions.get(usize::from(w)).ok_or(Refusal::Undeclared)?;
+    Ok(Opened { arity, met: seen })
 }
 
 // The next cell of an atom of which so many cells were taken.
-pub fn take(words: &[u16], from: Cursor, functions: &[u16], taken: usize, seen: usize) -> Taken
-    ensures { result ≡ taken_at functions.now taken seen words.now from.at }
+pub fn take<'a>(
+    from: Place<'a>,
+    functions: &[u16],
+    taken: usize,
+    seen: usize,
+) -> Result<(Opened, Place<'a>), Fault>
+    ensures { Meets from.entry.words.now Asks result (next_cell functions.now taken seen (left from.entry)) }
 {
-    let at = from.at;
-    match from.step(words) {
-        Step::End => Taken::Fault(TOO_SOON, at),
-        Step::Cell(w, next) => {
-            if ATOM_CELLS <= taken {
-                return Taken::Fault(LONG_ATOM, at);
-            }
-            match symbol_of(functions, seen, w) {
-                Cell::Bad(number) => Taken::Fault(number, at),
-                Cell::Opens(arity, met) => Taken::Opens(arity, met, next),
-            }
-        }
+    let (w, next) = from.word()?;
+    if ATOM_CELLS <= taken {
+        return Err(from.refused(Refusal::LongAtom));
+    }
+    // A match: behind `map_err` and `?` the check does not find which refusal the fault has.
+    match symbol_of(functions, seen, w) {
+        Ok(opened) => Ok((opened, next)),
+        Err(refusal) => Err(from.refused(refusal)),
     }
 }

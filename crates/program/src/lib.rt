@@ -3,6 +3,7 @@
 
 mod atoms;
 mod cells;
+pub mod kind;
 pub mod limits;
 mod part;
 pub mod reply;

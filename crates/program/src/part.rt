@@ -1,61 +1,90 @@
-// Reading a part of the words: the first fault, or a number and the place after the part.
-ghost use Rattle.std.specs.Prelude.{◌≡◌, ◌≤◌, length, drop};
-ghost use Rattle.program.specs.Reading.{bounded, several};
-ghost use Rattle.program.specs.Part.{Meets, itself, none};
+// Reading a part of the words: why it is refused and where, or what it comes to and the place after it.
+ghost use Rattle.std.specs.Prelude.{◌≤◌, length};
 
-use crate::reply::TOO_SOON;
-use terms::cursor::{Cursor, Step};
+use crate::reply::{Fault, Refusal};
+use terms::cursor::Cursor;
 
-#[derive(Drop)]
-pub enum Part {
-    // the fault's number and place
-    Fault(u16, usize),
-    // what the part comes to, and the place after it
-    Next(usize, Cursor),
+// A place in the words: one of them stands there, or they end there.
+#[derive(Clone, Copy)]
+pub struct Place<'a> {
+    words: &'a [u16],
+    cursor: Cursor,
+    ghost inside: { cursor.at ≤ length words.now },
 }
 
-pub fn wide(x: u16) -> usize
-    ensures { result ≡ x }
-{
-    x as usize
-}
+impl<'a> Place<'a> {
+    ghost use Rattle.std.specs.Prelude.{◌≡◌, ◌-◌, take};
+    ghost use Rattle.program.specs.Reply.{number_of};
+    ghost use Rattle.program.specs.Reading.{bounded, several};
+    ghost use Rattle.program.specs.Part.{Meets, Itself, Ends, left, next_word};
 
-// A word from low to high, else it is the fault of this number.
-pub fn bounded(words: &[u16], from: Cursor, number: u16, low: usize, high: usize) -> Part
-    requires { from.at ≤ length words.now }
-    ensures { Meets words.now itself result (bounded number low high (drop from.at words.now)) }
-{
-    let at = from.at;
-    match from.step(words) {
-        Step::End => Part::Fault(TOO_SOON, at),
-        Step::Cell(w, next) => {
-            let word = wide(w);
-            if word < low {
-                return Part::Fault(number, at);
-            }
-            if high < word {
-                return Part::Fault(number, at);
-            }
-            Part::Next(word, next)
+    // The place of the first word.
+    pub fn first(words: &'a [u16]) -> Place<'a>
+        ensures words { result.words.now ≡ words.now }
+        ensures first { result.cursor.at ≡ 0 }
+    {
+        Place {
+            words,
+            cursor: Cursor { at: 0 },
         }
     }
-}
 
-// So many words, each at most high.
-pub fn several(words: &[u16], from: Cursor, number: u16, high: usize, count: usize) -> Part
-    requires { from.at ≤ length words.now }
-    ensures { Meets words.now none result (several (bounded number 0 high) count (drop from.at words.now)) }
-{
-    let mut at = from;
-    let mut left = count;
-    while 0 < left {
-        match bounded(words, at, number, 0, high) {
-            Part::Fault(n, place) => return Part::Fault(n, place),
-            Part::Next(_, next) => {
-                at = next;
-                left -= 1;
-            }
+    // This refusal, for the place.
+    pub fn refused(self, refusal: Refusal) -> Fault
+        ensures { result ≡ record { refusal = refusal; place = self.entry.cursor.at } }
+    {
+        Fault {
+            refusal,
+            place: self.cursor.at,
         }
     }
-    Part::Next(0, at)
+
+    // The word at the place.
+    pub fn word(self) -> Result<(u16, Place<'a>), Fault>
+        ensures { Meets self.entry.words.now Itself result (next_word (left self.entry)) }
+    {
+        let step = self.cursor.step(self.words);
+        let (word, cursor) = step.ok_or(self.refused(Refusal::TooSoon))?;
+        let words = self.words;
+        Ok((word, Place { words, cursor }))
+    }
+
+    // A word from low to high, else it is refused for this.
+    #[tactic(auto, unfolding(crate::specs::Reading::bounded))]
+    pub fn bounded(
+        self,
+        refusal: Refusal,
+        low: usize,
+        high: usize,
+    ) -> Result<(usize, Place<'a>), Fault>
+        ensures { Meets self.entry.words.now Itself result (bounded (number_of refusal) low high (left self.entry)) }
+    {
+        let (word, next) = self.word()?;
+        let word = usize::from(word);
+        if word < low || high < word {
+            return Err(self.refused(refusal));
+        }
+        Ok((word, next))
+    }
+
+    // So many words, each at most high.
+    pub fn several(self, refusal: Refusal, high: usize, count: usize) -> Result<Place<'a>, Fault>
+        ensures { Meets self.entry.words.now Ends result (several (bounded (number_of refusal) 0 high) count (left self.entry)) }
+    {
+        let mut at = self;
+        for _ in 0..count {
+            let (_, next) = at.bounded(refusal, 0, high)?;
+            at = next;
+        }
+        Ok(at)
+    }
+
+    // The words up to a later place.
+    pub fn until(self, end: Place<'_>) -> &'a [u16]
+        requires later { self.cursor.at ≤ end.cursor.at }
+        requires inside { end.cursor.at ≤ length self.words.now }
+        ensures { result.now ≡ take (end.entry.cursor.at - self.entry.cursor.at) (left self.entry) }
+    {
+        &self.words[self.cursor.at..end.cursor.at]
+    }
 }

@@ -8,20 +8,20 @@ ghost use Rattle.program.specs.Program.{Program};
 ghost use Rattle.program.specs.Faults.{faults, sound};
 ghost use Rattle.directory.specs.Layout.{dir_words};
 
-use cases::{least, next, print, print_words};
+use cases::{Input, print, print_words};
 use directory::layout::{DIR_WORDS, MAX_SHAPES, SHAPE_CELLS, SHAPE_COUNT, SHAPE_START, SHAPE_VARS};
-use program::reply::ACCEPTED;
+use program::reply::Reply;
+use program::scan::check;
 use shaping::directory;
 use std::io;
-use terms::walk::wide;
 
 fn shape(rt: &impl Print, dir: &[u16], s: usize) -> io::Result<()>
     requires { (length dir.now ≡ dir_words) × (s < max_shapes) }
 {
-    let from = least(wide(dir[SHAPE_START + s]), 2048);
-    let to = least(wide(dir[SHAPE_START + s + 1]), 2048);
+    let from = usize::from(dir[SHAPE_START + s]).min(2048);
+    let to = usize::from(dir[SHAPE_START + s + 1]).min(2048);
     rt.write_all(b"| ")?;
-    print(rt, wide(dir[SHAPE_VARS + s]), b" ")?;
+    print(rt, usize::from(dir[SHAPE_VARS + s]), b" ")?;
     if from <= to {
         print_words(rt, &dir[SHAPE_CELLS + from..SHAPE_CELLS + to])?;
     }
@@ -33,7 +33,7 @@ fn shapes(rt: &impl Print, words: &[u16]) -> io::Result<()>
 {
     let mut dir = [0u16; DIR_WORDS];
     directory(words, &mut dir);
-    let count = least(wide(dir[SHAPE_COUNT]), MAX_SHAPES);
+    let count = usize::from(dir[SHAPE_COUNT]).min(MAX_SHAPES);
     for s in 0..count {
         shape(rt, &dir, s)?;
     }
@@ -41,10 +41,11 @@ fn shapes(rt: &impl Print, words: &[u16]) -> io::Result<()>
 }
 
 fn reply(rt: &impl Print, words: &[u16]) -> io::Result<()> {
-    let r = program::scan::scan(words);
-    print(rt, r.number as usize, b" ")?;
+    let outcome = check(words);
+    let r = Reply::from(outcome.map(|()| 0));
+    print(rt, usize::from(r.number), b" ")?;
     print(rt, r.place, b" ")?;
-    if r.number == ACCEPTED {
+    if let Ok(()) = outcome {
         shapes(rt, words)?;
     }
     rt.write_all(b"\n")
@@ -53,16 +54,5 @@ fn reply(rt: &impl Print, words: &[u16]) -> io::Result<()> {
 fn main(rt: HostRuntime) -> io::Result<()> {
     // one word more than a program may have, so that a longer line is too long
     let mut words = [0u16; 2049];
-    let mut buffer = [0u8; 4096];
-    let mut stdin = rt.stdin();
-    let mut input = cases::start();
-    for _ in 0..u64::MAX {
-        input = next(&mut stdin, &mut words, &mut buffer, input)?;
-        if input.over {
-            break;
-        }
-        let count = input.count;
-        reply(&rt, &words[..count])?;
-    }
-    Ok(())
+    Input::new(rt.stdin()).each_line(&mut words, |line| reply(&rt, line))
 }

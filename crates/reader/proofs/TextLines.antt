@@ -10,20 +10,23 @@ use lib.Seq.{drop-cons}
 use lib.Dec.{eqb}
 use borrow.Author.Tests.{lt-ltb, le-ltb}
 use Rattle.program.specs.Limits.{max_words}
-use Rattle.program.specs.Reply.{too_soon, follows}
+use Rattle.program.specs.Reply.{too_soon, follows, number_of}
 use Rattle.program.specs.Lists.{between}
 use Rattle.text.specs.Line.{up_to, parts, onto, behind, tab, line_feed}
 use Rattle.text.specs.Name.{name_bytes, max_names}
 use Rattle.text.specs.Room.{in_room}
 use Rattle.text.proofs.Cuts.{parts_from, part_within}
 use Rattle.cells.specs.declared.state.Counts.{Counts}
+use Rattle.cells.specs.declared.state.SymbolRoom.{SymbolRoom}
 use Rattle.declarations.specs.declared.lined.Lined.{Lined}
-use Rattle.declarations.specs.declared.lined.Lined.TheVariants.{Fault, More, Last}
+use Rattle.declarations.specs.declared.lined.Lined.TheVariants.{More, Last}
+use Rattle.declarations.specs.declared.lined.Sizes.{Sizes}
+use Rattle.std.specs.Prelude.{Result, Ok, Err}
+use Rattle.program.specs.declared.reply.Fault.{Fault}
 use Rattle.cells.specs.TextSoFar.{TextSoFar, Read, wrong, right, nothing, Scenario, Line, more, last}
 use Rattle.text_lines.specs.Lines.{fields_of, ending, lines_of, all_lines}
-use Rattle.declarations.specs.Held.{text_so_far, Holds, LinedAs, Limited}
+use Rattle.declarations.specs.Held.{text_so_far, Holds, LinedAs, Limited, sizes_of}
 use Rattle.reader.specs.Found.{FoundAs}
-use Rattle.reader.specs.declared.all_lines.Found.TheVariants.{Fault as FoundFault, Done}
 
 -- what a line that ends in LF comes to, and then the others
 abbrev pub after_line : Read Line → ℕ → List ℕ → List (List ℕ) → Read Scenario
@@ -133,77 +136,73 @@ module _ (text : List ℕ) (at e : ℕ) (h : at ≤ length text) (ends : e ≡ a
         turn t ∙ rw f (more_follows s (e + 1) (get_or text (e + 1) 0) (drop (suc (e + 1)) text) line₂ (behind line_feed text e₂) (sym (ap (parts line_feed) (drop-cons text (e + 1) 0 n)) ∙ second))
 
 -- the answer for a line, by its case
-pub record Came (o : Read Line) (c : Counts) (names hashes arities words : List ℕ) : Type 0 where
+pub record Came (o : Read Line) (c : Counts) (symbols : SymbolRoom) (words : List ℕ) : Type 0 where
   pub ns : List ℕ
   pub ws : List ℕ
   pub is : o ≡ right (more (text_so_far c ns ws))
-  pub holds : Holds ns ws c names hashes arities words
+  pub holds : Holds ns ws c symbols words
 
-pub record Ended (o : Read Line) (count size : ℕ) (names words : List ℕ) : Type 0 where
+pub record Ended (o : Read Line) (sizes : Sizes) (names words : List ℕ) : Type 0 where
   pub scenario : Scenario
   pub is : o ≡ right (last scenario)
-  pub counted : count ≡ length scenario.words
-  pub sized : size ≡ length scenario.names
+  pub sized : sizes ≡ sizes_of scenario
   pub word_room : words ≡ in_room max_words scenario.words
   pub name_room : names ≡ in_room (max_names * name_bytes) scenario.names
   pub few : length scenario.names ≤ max_names * name_bytes
 
-abbrev counts_of : Lined → Counts → Counts
-counts_of (Fault number place) d = d
-counts_of (More c) d = c
-counts_of (Last words names) d = d
+abbrev counts_of : Result Lined Fault → Counts → Counts
+counts_of (Err _) d = d
+counts_of (Ok (More c)) d = c
+counts_of (Ok (Last sizes)) d = d
 
-abbrev kind_of_answer : Lined → ℕ
-kind_of_answer (Fault number place) = 0
-kind_of_answer (More c) = 1
-kind_of_answer (Last words names) = 2
+abbrev kind_of_answer : Result Lined Fault → ℕ
+kind_of_answer (Err _) = 0
+kind_of_answer (Ok (More c)) = 1
+kind_of_answer (Ok (Last sizes)) = 2
 
-module _ (names hashes arities words : List ℕ) where
-  pub lined_is_wrong : (o : Read Line) (number place : ℕ) → LinedAs names hashes arities words (Fault number place) o → o ≡ wrong number place
-  lined_is_wrong (wrong n p) number place e = cc
-  lined_is_wrong (right (more t)) number place e = absurd (let z : ◌≡◌ {A = ℕ} 0 1 = ap kind_of_answer e.1 in omega arith)
-  lined_is_wrong (right (last s)) number place e = absurd (let z : ◌≡◌ {A = ℕ} 0 2 = ap kind_of_answer e.0 in omega arith)
+module _ (symbols : SymbolRoom) (words : List ℕ) where
+  pub lined_is_wrong : (o : Read Line) (fault : Fault) → LinedAs symbols words (Err fault) o → o ≡ wrong (number_of fault.refusal) fault.place
+  lined_is_wrong (wrong n p) fault e = let number : n ≡ number_of fault.refusal = cc in let place : p ≡ fault.place = cc in λ i. wrong (number i) (place i)
+  lined_is_wrong (right (more t)) fault e = absurd (let z : ◌≡◌ {A = ℕ} 0 1 = ap kind_of_answer e.1 in omega arith)
+  lined_is_wrong (right (last s)) fault e = absurd (let z : ◌≡◌ {A = ℕ} 0 2 = ap kind_of_answer e.0 in omega arith)
 
-  came : (t : TextSoFar) (c d : Counts) → d ≡ c → t ≡ text_so_far d t.names t.words → Holds t.names t.words d names hashes arities words
-      → Came (right (more t)) c names hashes arities words
+  came : (t : TextSoFar) (c d : Counts) → d ≡ c → t ≡ text_so_far d t.names t.words → Holds t.names t.words d symbols words
+      → Came (right (more t)) c symbols words
   came t c d same is holds =
-      subst (λ (k : Counts). Came (right (more t)) k names hashes arities words) same
+      subst (λ (k : Counts). Came (right (more t)) k symbols words) same
       (record { ns = t.names; ws = t.words; is = ap (λ (u : TextSoFar). right (more u)) is; holds = holds })
 
-  pub lined_is_more : (o : Read Line) (c : Counts) → LinedAs names hashes arities words (More c) o → Came o c names hashes arities words
-  lined_is_more (wrong n p) c e = absurd (let z : ◌≡◌ {A = ℕ} 1 0 = ap kind_of_answer e in omega arith)
-  lined_is_more (right (more t)) c e = came t c e.0 (sym (ap (λ (r : Lined). counts_of r c) e.1)) e.2 e.3
+  pub lined_is_more : (o : Read Line) (c : Counts) → LinedAs symbols words (Ok (More c)) o → Came o c symbols words
+  lined_is_more (wrong n p) c e = absurd (let z : ◌≡◌ {A = ℕ} 0 1 = cc in omega arith)
+  lined_is_more (right (more t)) c e = came t c e.0 (sym (ap (λ (r : Result Lined Fault). counts_of r c) e.1)) e.2 e.3
   lined_is_more (right (last s)) c e = absurd (let z : ◌≡◌ {A = ℕ} 1 2 = ap kind_of_answer e.0 in omega arith)
 
-  pub lined_is_last : (o : Read Line) (count size : ℕ) → LinedAs names hashes arities words (Last count size) o → Ended o count size names words
-  lined_is_last (wrong n p) count size e = absurd (let z : ◌≡◌ {A = ℕ} 2 0 = ap kind_of_answer e in omega arith)
-  lined_is_last (right (more t)) count size e = absurd (let z : ◌≡◌ {A = ℕ} 2 1 = ap kind_of_answer e.1 in omega arith)
-  lined_is_last (right (last s)) count size e =
+  pub lined_is_last : (o : Read Line) (sizes : Sizes) → LinedAs symbols words (Ok (Last sizes)) o → Ended o sizes symbols.names words
+  lined_is_last (wrong n p) sizes e = absurd (let z : ◌≡◌ {A = ℕ} 0 1 = cc in omega arith)
+  lined_is_last (right (more t)) sizes e = absurd (let z : ◌≡◌ {A = ℕ} 2 1 = ap kind_of_answer e.1 in omega arith)
+  lined_is_last (right (last s)) sizes e =
       let f = e.0 in
-      record { scenario = s; is = refl; counted = cc; sized = cc; word_room = e.1; name_room = e.2; few = e.3 }
+      record { scenario = s; is = refl; sized = cc; word_room = e.1; name_room = e.2; few = e.3 }
 
 -- the text read so far, and what is left of it
-pub record Left (text : List ℕ) (c : Counts) (at : ℕ) (names hashes arities words : List ℕ) : Type 0 where
+pub record Left (text : List ℕ) (c : Counts) (at : ℕ) (symbols : SymbolRoom) (words : List ℕ) : Type 0 where
   pub ns : List ℕ
   pub ws : List ℕ
-  pub holds : Holds ns ws c names hashes arities words
+  pub holds : Holds ns ws c symbols words
   pub rest : all_lines nothing 0 (parts line_feed text) ≡ all_lines (text_so_far c ns ws) at (parts line_feed (drop at text))
 
 -- what holds whenever a line begins
-pub record Reading (text names₀ hashes₀ arities₀ words₀ names hashes arities words : List ℕ) (c : Counts) (at : ℕ) : Type 0 where
+pub record Reading (text : List ℕ) (symbols₀ : SymbolRoom) (words₀ : List ℕ) (symbols : SymbolRoom) (words : List ℕ) (c : Counts) (at : ℕ) : Type 0 where
   pub within : at ≤ length text
   pub slow : c.words ≤ at + 3
   pub limited : Limited c
-  pub name_length : length names ≡ length names₀
-  pub hash_length : length hashes ≡ length hashes₀
-  pub arity_length : length arities ≡ length arities₀
   pub word_length : length words ≡ length words₀
-  pub says : names₀ ≡ in_room (max_names * name_bytes) [] → words₀ ≡ in_room max_words [] → Left text c at names hashes arities words
+  pub says : symbols₀.names ≡ in_room (max_names * name_bytes) [] → words₀ ≡ in_room max_words [] → Left text c at symbols words
 
 -- before the first line
-pub nothing_read : (text names hashes arities words : List ℕ) → names ≡ in_room (max_names * name_bytes) [] → words ≡ in_room max_words []
-    → Left text (record { predicates = 0; functions = 0; clauses = 0; words = 3 }) 0 names hashes arities words
-nothing_read text names hashes arities words e f =
+pub nothing_read : (text : List ℕ) (symbols : SymbolRoom) (words : List ℕ) → symbols.names ≡ in_room (max_names * name_bytes) [] → words ≡ in_room max_words []
+    → Left text (record { predicates = 0; functions = 0; clauses = 0; words = 3 }) 0 symbols words
+nothing_read text symbols words e f =
     record {
       ns = [];
       ws = [];
@@ -219,9 +218,9 @@ nothing_read text names hashes arities words e f =
     }
 
 -- the answer for a text, by what its lines come to
-pub found_wrong : (names words : List ℕ) {number place : ℕ} (o : Read Scenario) → o ≡ wrong number place → FoundAs names words (FoundFault number place) o
-found_wrong names words o e = rw e
+pub found_wrong : (names words : List ℕ) (fault : Fault) (o : Read Scenario) → o ≡ wrong (number_of fault.refusal) fault.place → FoundAs names words (Err fault) o
+found_wrong names words fault o e = rw e refl
 
-pub found_right : (names words : List ℕ) (l : Read Line) (count size : ℕ) (o : Read Scenario) (e : Ended l count size names words) → o ≡ right e.scenario
-    → FoundAs names words (Done count size) o
-found_right names words l count size o e f = rw (f, e.counted, e.sized) (refl, e.word_room, e.name_room, e.few)
+pub found_right : (names words : List ℕ) (l : Read Line) (sizes : Sizes) (o : Read Scenario) (e : Ended l sizes names words) → o ≡ right e.scenario
+    → FoundAs names words (Ok sizes) o
+found_right names words l sizes o e f = rw f (ap Ok e.sized, e.word_room, e.name_room, e.few)

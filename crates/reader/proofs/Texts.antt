@@ -8,16 +8,18 @@ use mathlib.Core.Bool.{Bool, true, false, cond}
 use lib.Dec.{ltb}
 use borrow.Author.Tests.{lt-ltb, le-ltb, ltb-false}
 use Rattle.program.specs.Limits.{max_words, max_bytes}
-use Rattle.program.specs.Reply.{too_long, no_room, refused, done}
+use Rattle.program.specs.Reply.{too_long, no_room, number_of, refused, done}
 use Rattle.text.specs.Room.{in_room}
 use Rattle.text.specs.Name.{name_bytes, max_names}
 use Rattle.text.specs.Line.{parts, line_feed}
-use Rattle.reader.specs.declared.all_lines.Found.{Found}
-use Rattle.reader.specs.declared.all_lines.Found.TheVariants.{Fault, Done}
+use Rattle.std.specs.Prelude.{Ok, Err}
+use Rattle.program.specs.declared.reply.Fault.{Fault}
+use Rattle.declarations.specs.declared.lined.Sizes.{Sizes}
+use Rattle.declarations.specs.Held.{sizes_of}
 use Rattle.cells.specs.TextSoFar.{Read, wrong, right, next, nothing, Scenario}
 use Rattle.text_lines.specs.Lines.{all_lines}
-use Rattle.reader.specs.Found.{FoundAs, roomed}
-use Rattle.reader.specs.Read.{counted, read_of, in_rooms, reply_of, read_left}
+use Rattle.reader.specs.Found.{FoundAs}
+use Rattle.reader.specs.Read.{counted, read_of, in_rooms, answer_of, reply_of, read_left}
 
 pub too_long_law : (text : List ℕ) → max_bytes < length text → read_of text ≡ wrong too_long max_bytes
 unfolding read_of
@@ -27,57 +29,71 @@ pub by_lines : (text : List ℕ) → length text ≤ max_bytes → read_of text 
 unfolding read_of
 by_lines text h = rw (le-ltb max_bytes (length text) h)
 
-abbrev kind_of_found : Found → ℕ
-kind_of_found (Fault number place) = 0
-kind_of_found (Done words names) = 1
-
-abbrev number_in : Found → ℕ
-number_in (Fault number place) = number
-number_in (Done words names) = words
-
-abbrev place_in : Found → ℕ
-place_in (Fault number place) = place
-place_in (Done words names) = names
+-- in any room, what is wrong stays wrong
+pub answer_long : (text : List ℕ) (roomW roomN : ℕ) → max_bytes < length text → answer_of text roomW roomN ≡ wrong too_long max_bytes
+answer_long text roomW roomN h = rw (too_long_law text h)
 
 module _ (names words : List ℕ) where
-  pub fault_is : (o : Read Scenario) (number place : ℕ) → FoundAs names words (Fault number place) o → o ≡ wrong number place
-  fault_is (wrong n p) number place e = let a = ap number_in e in let b = ap place_in e in λ i. wrong (sym a i) (sym b i)
-  fault_is (right s) number place e = absurd (let z : ◌≡◌ {A = ℕ} 0 1 = ap kind_of_found e.0 in omega arith)
+  pub fault_is : (o : Read Scenario) (fault : Fault) → FoundAs names words (Err fault) o → o ≡ wrong (number_of fault.refusal) fault.place
+  fault_is (wrong n p) fault e = let number : n ≡ number_of fault.refusal = cc in let place : p ≡ fault.place = cc in λ i. wrong (number i) (place i)
+  fault_is (right s) fault e = absurd (let f = e.0 in let z : ◌≡◌ {A = ℕ} 0 1 = cc in omega arith)
 
   -- the scenario that was found
-  pub record Has (o : Read Scenario) (count size : ℕ) : Type 0 where
+  pub record Has (o : Read Scenario) (sizes : Sizes) : Type 0 where
     pub scenario : Scenario
     pub is : o ≡ right scenario
-    pub count_is : count ≡ length scenario.words
-    pub size_is : size ≡ length scenario.names
+    pub sized : sizes ≡ sizes_of scenario
     pub word_room : words ≡ in_room max_words scenario.words
     pub name_room : names ≡ in_room (max_names * name_bytes) scenario.names
     pub few : length scenario.names ≤ max_names * name_bytes
 
-  pub done_is : (o : Read Scenario) (count size : ℕ) → FoundAs names words (Done count size) o → Has o count size
-  done_is (wrong n p) count size e = absurd (let z : ◌≡◌ {A = ℕ} 1 0 = ap kind_of_found e in omega arith)
-  done_is (right s) count size e =
-      record { scenario = s; is = refl; count_is = ap number_in e.0; size_is = ap place_in e.0; word_room = e.1; name_room = e.2; few = e.3 }
+  pub done_is : (o : Read Scenario) (sizes : Sizes) → FoundAs names words (Ok sizes) o → Has o sizes
+  done_is (wrong n p) sizes e = absurd (let z : ◌≡◌ {A = ℕ} 0 1 = cc in omega arith)
+  done_is (right s) sizes e = let f = e.0 in record { scenario = s; is = refl; sized = cc; word_room = e.1; name_room = e.2; few = e.3 }
 
-  module _ (text : List ℕ) (h : length text ≤ max_bytes) where
+  module _ (text : List ℕ) (roomW roomN : ℕ) (h : length text ≤ max_bytes) where
     abbrev lines : Read Scenario
     lines = all_lines nothing 0 (parts line_feed text)
 
-    pub text_fault : (number place : ℕ) → FoundAs names words (Fault number place) lines → FoundAs names words (Fault number place) (read_of text)
-    text_fault number place e = rw (by_lines text h, fault_is lines number place e)
+    pub text_fault : (fault : Fault) → FoundAs names words (Err fault) lines → FoundAs names words (Err fault) (answer_of text roomW roomN)
+    text_fault fault e = rw (by_lines text h, fault_is lines fault e) refl
 
-    pub text_counted : (count size : ℕ) → FoundAs names words (Done count size) lines → max_words < count → FoundAs names words (Fault too_long (length text)) (read_of text)
-    text_counted count size e m =
-        let d = done_is lines count size e in
-        let k : max_words < length d.scenario.words = omega (arith, d.count_is) in
-        rw (by_lines text h, d.is, lt-ltb max_words (length d.scenario.words) k)
+    module _ (sizes : Sizes) (e : FoundAs names words (Ok sizes) lines) where
+      abbrev found : Has lines sizes
+      found = done_is lines sizes e
 
-    pub text_done : (count size : ℕ) → FoundAs names words (Done count size) lines → count ≤ max_words → FoundAs names words (Done count size) (read_of text)
-    text_done count size e m =
-        let d = done_is lines count size e in
-        let k : length d.scenario.words ≤ max_words = omega (arith, d.count_is) in
-        rw (by_lines text h, d.is, le-ltb max_words (length d.scenario.words) k)
-        ((λ i. Done (d.count_is i) (d.size_is i)), d.word_room, d.name_room, d.few)
+      counts : (sizes.words ≡ length found.scenario.words) × (sizes.names ≡ length found.scenario.names)
+      counts = (ap (λ (z : Sizes). z.words) found.sized, ap (λ (z : Sizes). z.names) found.sized)
+
+      pub text_counted : max_words < sizes.words → answer_of text roomW roomN ≡ wrong too_long (length text)
+      text_counted m =
+          let k : max_words < length found.scenario.words = omega (arith, counts.0) in
+          rw (by_lines text h, found.is, lt-ltb max_words (length found.scenario.words) k)
+
+      module _ (m : sizes.words ≤ max_words) where
+        read : read_of text ≡ right found.scenario
+        read =
+            let k : length found.scenario.words ≤ max_words = omega (arith, counts.0) in
+            by_lines text h ∙ ap (λ (o : Read Scenario). next o (counted (length text))) found.is ∙ rw (le-ltb max_words (length found.scenario.words) k)
+
+        pub text_no_words : roomW < sizes.words → answer_of text roomW roomN ≡ wrong no_room roomW
+        text_no_words l =
+            let k : roomW < length found.scenario.words = omega (arith, counts.0) in
+            rw (read, lt-ltb roomW (length found.scenario.words) k)
+
+        module _ (fits : sizes.words ≤ roomW) where
+          in_words : ltb roomW (length found.scenario.words) ≡ false
+          in_words = le-ltb roomW (length found.scenario.words) (omega (arith, counts.0))
+
+          pub text_no_names : roomN < sizes.names → answer_of text roomW roomN ≡ wrong no_room roomN
+          text_no_names l =
+              let k : roomN < length found.scenario.names = omega (arith, counts.1) in
+              rw (read, in_words, lt-ltb roomN (length found.scenario.names) k)
+
+          pub text_done : sizes.names ≤ roomN → FoundAs names words (Ok sizes) (answer_of text roomW roomN)
+          text_done l =
+              let k : length found.scenario.names ≤ roomN = omega (arith, counts.1) in
+              rw (read, in_words, le-ltb roomN (length found.scenario.names) k) (ap Ok found.sized, found.word_room, found.name_room, found.few)
 
 -- a text that is read has no more words than a program may have
 pub read_few : (text : List ℕ) (s : Scenario) → read_of text ≡ right s → length s.words ≤ max_words
@@ -93,30 +109,6 @@ read_few text s e = go (ltb max_bytes (length text)) (all_lines nothing 0 (parts
     go false (wrong n p) e = absurd (let z : ◌≡◌ {A = ℕ} 0 1 = cc in omega arith)
     go false (right u) e = last u (ltb max_words (length u.words)) refl e
 
--- the answer in lent room, from the answer that was found
-module _ (words names : ℕ) where
-  pub answer_fault : (ns ws : List ℕ) (o : Read Scenario) (f : Found) (number place : ℕ) → FoundAs ns ws f o → Fault number place ≡ roomed words names f
-      → next o (in_rooms words names) ≡ wrong number place
-  answer_fault ns ws (wrong n p) f number place e r = let z : Fault number place ≡ Fault n p = r ∙ ap (roomed words names) e in fault_is ns ws (wrong n p) number place z
-  answer_fault ns ws (right s) f number place e r = rooms (ltb words (length s.words)) (ltb names (length s.names)) (r ∙ ap (roomed words names) e.0)
-    where
-      rooms : (t u : Bool) → Fault number place ≡ cond t (Fault no_room words) (cond u (Fault no_room names) (Done (length s.words) (length s.names)))
-          → cond t (wrong no_room words) (cond u (wrong no_room names) (right s)) ≡ wrong number place
-      rooms true u z = fault_is ns ws (wrong no_room words) number place z
-      rooms false true z = fault_is ns ws (wrong no_room names) number place z
-      rooms false false z = absurd (let y : ◌≡◌ {A = ℕ} 0 1 = ap kind_of_found z in omega arith)
-
-  pub answer_done : (ns ws : List ℕ) (o : Read Scenario) (f : Found) (count size : ℕ) → FoundAs ns ws f o → Done count size ≡ roomed words names f
-      → Has ns ws (next o (in_rooms words names)) count size
-  answer_done ns ws (wrong n p) f count size e r = absurd (let z : ◌≡◌ {A = ℕ} 1 0 = ap kind_of_found (r ∙ ap (roomed words names) e) in omega arith)
-  answer_done ns ws (right s) f count size e r = rooms (ltb words (length s.words)) (ltb names (length s.names)) (r ∙ ap (roomed words names) e.0)
-    where
-      rooms : (t u : Bool) → Done count size ≡ cond t (Fault no_room words) (cond u (Fault no_room names) (Done (length s.words) (length s.names)))
-          → Has ns ws (cond t (wrong no_room words) (cond u (wrong no_room names) (right s))) count size
-      rooms true u z = absurd (let y : ◌≡◌ {A = ℕ} 1 0 = ap kind_of_found z in omega arith)
-      rooms false true z = absurd (let y : ◌≡◌ {A = ℕ} 1 0 = ap kind_of_found z in omega arith)
-      rooms false false z = done_is ns ws (right s) count size (z, e.1, e.2, e.3)
-
 -- the reply and all lent output, by the answer
 pub refused_all : (o : Read Scenario) (number place roomW roomN : ℕ) (ws ns : List ℕ) → o ≡ wrong number place → ws ≡ in_room roomW [] → ns ≡ in_room roomN []
     → (refused number place ≡ reply_of o) × ((ws, ns) ≡ read_left roomW roomN o)
@@ -127,11 +119,49 @@ pub accepted_all : (o : Read Scenario) (s : Scenario) (count roomW roomN : ℕ) 
 accepted_all o s count roomW roomN ws ns e c f g = rw (e, c) (refl, λ i. (f i, g i))
 
 -- what fits a room was read
-pub fits_was_read : (words names : ℕ) (o : Read Scenario) (s : Scenario) → next o (in_rooms words names) ≡ right s → o ≡ right s
-fits_was_read words names (wrong n p) s e = absurd (let z : ◌≡◌ {A = ℕ} 0 1 = cc in omega arith)
-fits_was_read words names (right u) s e = rooms (ltb words (length u.words)) (ltb names (length u.names)) e
+pub record Fits (words names : ℕ) (o : Read Scenario) (s : Scenario) : Type 0 where
+  pub was_read : o ≡ right s
+  pub word_count : length s.words ≤ words
+  pub name_count : length s.names ≤ names
+
+pub fits : (words names : ℕ) (o : Read Scenario) (s : Scenario) → next o (in_rooms words names) ≡ right s → Fits words names o s
+fits words names (wrong n p) s e = absurd (let z : ◌≡◌ {A = ℕ} 0 1 = cc in omega arith)
+fits words names (right u) s e = rooms (ltb words (length u.words)) refl (ltb names (length u.names)) refl e
   where
-    rooms : (t v : Bool) → cond t (wrong no_room words) (cond v (wrong no_room names) (right u)) ≡ right s → right u ≡ right s
-    rooms true v e = absurd (let z : ◌≡◌ {A = ℕ} 0 1 = cc in omega arith)
-    rooms false true e = absurd (let z : ◌≡◌ {A = ℕ} 0 1 = cc in omega arith)
-    rooms false false e = e
+    rooms : (t : Bool) → ltb words (length u.words) ≡ t → (v : Bool) → ltb names (length u.names) ≡ v
+        → cond t (wrong no_room words) (cond v (wrong no_room names) (right u)) ≡ right s → Fits words names (right u) s
+    rooms true f v g e = absurd (let z : ◌≡◌ {A = ℕ} 0 1 = cc in omega arith)
+    rooms false f true g e = absurd (let z : ◌≡◌ {A = ℕ} 0 1 = cc in omega arith)
+    rooms false f false g e =
+        let same : u ≡ s = cc in
+        rw (← same) (record { was_read = refl; word_count = ltb-false words (length u.words) f; name_count = ltb-false names (length u.names) g })
+
+-- a text that is read and fits, and what stands of it in the reader's own room
+pub record Whole (text names words : List ℕ) (roomW roomN : ℕ) (sizes : Sizes) : Type 0 where
+  pub scenario : Scenario
+  pub is : answer_of text roomW roomN ≡ right scenario
+  pub count_is : sizes.words ≡ length scenario.words
+  pub size_is : sizes.names ≡ length scenario.names
+  pub word_room : words ≡ in_room max_words scenario.words
+  pub name_room : names ≡ in_room (max_names * name_bytes) scenario.names
+  pub few_words : length scenario.words ≤ max_words
+  pub few_names : length scenario.names ≤ max_names * name_bytes
+  pub words_fit : length scenario.words ≤ roomW
+  pub names_fit : length scenario.names ≤ roomN
+
+pub whole : (text names words : List ℕ) (roomW roomN : ℕ) (sizes : Sizes) → FoundAs names words (Ok sizes) (answer_of text roomW roomN) → Whole text names words roomW roomN sizes
+whole text names words roomW roomN sizes e =
+    let d = done_is names words (answer_of text roomW roomN) sizes e in
+    let f = fits roomW roomN (read_of text) d.scenario d.is in
+    record {
+      scenario = d.scenario;
+      is = d.is;
+      count_is = ap (λ (z : Sizes). z.words) d.sized;
+      size_is = ap (λ (z : Sizes). z.names) d.sized;
+      word_room = d.word_room;
+      name_room = d.name_room;
+      few_words = read_few text d.scenario f.was_read;
+      few_names = d.few;
+      words_fit = f.word_count;
+      names_fit = f.name_count;
+    }

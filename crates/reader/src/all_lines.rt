@@ -8,30 +8,16 @@ ghost use Rattle.cells.specs.TextSoFar.{nothing};
 ghost use Rattle.text_lines.specs.Lines.{all_lines};
 ghost use Rattle.reader.specs.Found.{FoundAs};
 
-use cells::state::Counts;
-use declarations::lined::Lined;
-use program::reply::{FOLLOWS, TOO_SOON};
+use cells::state::{Counts, Line, SymbolRoom};
+use declarations::lined::{Lined, Sizes};
+use program::reply::{Fault, Refusal};
 use text::cut::{LINE_FEED, find};
 use text_lines::line::read_line;
 
-// The answer for a text.
-#[derive(Drop)]
-pub enum Found {
-    Fault { number: u16, place: usize },
-    // how many words, and how many bytes of names
-    Done { words: usize, names: usize },
-}
-
 // All lines, from the first on.
-pub fn read_lines(
-    text: &[u8],
-    names: &mut [u8],
-    hashes: &mut [u32],
-    arities: &mut [u16],
-    words: &mut [u16],
-) -> Found
-    requires { (length text.now < 2 ^ 29) × (length names.old ≡ max_names * name_bytes) × (length hashes.old ≡ max_names) × (length arities.old ≡ max_names) }
-    ensures { names.old ≡ in_room (max_names * name_bytes) [] → words.old ≡ in_room max_words [] → FoundAs names.new words.new result (all_lines nothing 0 (parts line_feed text.now)) }
+pub fn read_lines(text: &[u8], symbols: &mut SymbolRoom, words: &mut [u16]) -> Result<Sizes, Fault>
+    requires { length text.now < 2 ^ 29 }
+    ensures { symbols.old.names ≡ in_room (max_names * name_bytes) [] → words.old ≡ in_room max_words [] → FoundAs symbols.new.names words.new result (all_lines nothing 0 (parts line_feed text.now)) }
 {
     let mut c = Counts {
         predicates: 0,
@@ -40,28 +26,32 @@ pub fn read_lines(
         words: 3,
     };
     let mut at = 0;
+    // Not an iterator over the lines: a fault names a place of the text, and a line that `split` hands out has none.
     loop {
         let end = find(text, at, LINE_FEED);
         if text.len() <= end {
-            return Found::Fault {
-                number: TOO_SOON,
+            return Err(Fault {
+                refusal: Refusal::TooSoon,
                 place: end,
-            };
+            });
         }
-        match read_line(&text[at..end], at, c, names, hashes, arities, words) {
-            Lined::Fault { number, place } => return Found::Fault { number, place },
+        let line = Line {
+            bytes: &text[at..end],
+            place: at,
+        };
+        match read_line(&line, c, symbols, words)? {
             Lined::More(next) => {
                 c = next;
                 at = end + 1;
             }
-            Lined::Last { words, names } => {
+            Lined::Last(sizes) => {
                 if end + 1 < text.len() {
-                    return Found::Fault {
-                        number: FOLLOWS,
+                    return Err(Fault {
+                        refusal: Refusal::Follows,
                         place: end + 1,
-                    };
+                    });
                 }
-                return Found::Done { words, names };
+                return Ok(sizes);
             }
         }
     }

@@ -5,16 +5,16 @@ use native.Mathlib.Decide.{dec_lt}
 use mathlib.Core.Path.{◌≡◌}
 use lib.ListN.{length}
 use borrow.Author.Tests.{le-leb}
+use Rattle.std.specs.Prelude.{Some}
 use Rattle.terms.specs.Cells.{variables}
 use Rattle.program.specs.Within.{none, more}
 use Rattle.text.specs.Token.{digit0, digit9, too_large, number_of}
 use Rattle.text.specs.Decimal.{decimal}
-use Rattle.text.specs.declared.token.Number.TheVariants.{Value}
 use Rattle.round_trips.proofs.Tokens.{decimal_one, decimal_two}
 use Rattle.round_trips.proofs.Printed.{Bytes}
 
 pub record PrintedNumber (n : ℕ) : Type 0 where
-  pub read : number_of (decimal n) ≡ Value n
+  pub read : number_of (decimal n) ≡ Some n
   pub bytes : Bytes (decimal n)
   pub short : length (decimal n) ≤ 2
 

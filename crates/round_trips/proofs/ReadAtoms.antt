@@ -13,8 +13,7 @@ use Rattle.terms.proofs.Runs.{encs_split}
 use Rattle.program.specs.Limits.{max_body, max_variable}
 use Rattle.program.specs.Reply.{too_soon, follows}
 use Rattle.program.specs.Reading.{right as part}
-use Rattle.program.specs.Atoms.{cell_of, build, terms, atom, atoms}
-use Rattle.program.specs.declared.cells.Cell.TheVariants.{Opens}
+use Rattle.program.specs.Atoms.{Opens, cell_of, build, terms, atom, atoms}
 use Rattle.program.proofs.Taking.{terms_cell, no_terms}
 use Rattle.program.proofs.WordsOfTerms.{function_opens, variable_opens}
 use Rattle.text.specs.Decimal.{decimal}

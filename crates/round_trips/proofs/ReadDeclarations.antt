@@ -7,18 +7,16 @@ use mathlib.Core.List.{List, [], ◌∷◌, ◌++◌}
 use lib.ListN.{length, length-append}
 use lib.Dec.{ltb}
 use borrow.Author.Tests.{ltb-false}
+use Rattle.std.specs.Prelude.{Option, Some, None}
 use Rattle.program.specs.Limits.{max_declared, max_arity}
 use Rattle.program.specs.Reply.{out_of_range, bad_name}
 use Rattle.program.specs.Within.{none, more}
 use Rattle.text.specs.Token.{is_name, number_of}
 use Rattle.text.specs.Name.{name_bytes, padded}
 use Rattle.text.specs.Decimal.{decimal}
-use Rattle.text.specs.declared.token.Number.{Number}
-use Rattle.text.specs.declared.token.Number.TheVariants.{None, Value}
 use Rattle.text_lines.specs.Keyword.{pred, func}
-use Rattle.cells.specs.TextSoFar.{Read, right, pred_section, func_section, TextSoFar, count, with_line}
+use Rattle.cells.specs.TextSoFar.{Read, wrong, right, pred_section, func_section, TextSoFar, count, with_line}
 use Rattle.declarations.specs.Declarations.{declaring, fresh, arity_of, symbol_of, two, opens, declared, declaration_line, pred_line, func_line}
-use Rattle.declarations.specs.declared.declare.Declared.TheVariants.{Fault, Symbol}
 use Rattle.declarations.proofs.Symbols.{entry_front}
 use Rattle.written_lines.specs.Tokens.{symbol_token, line}
 use Rattle.written_lines.specs.Lines.{declarations}
@@ -70,8 +68,8 @@ declared_right : (t t' : TextSoFar) (section from at : ℕ) (name arity : List �
     → declared t section name (symbol_of t.names from (count t section) at name arity) ≡ right t' → Declaration t t' section from (name ∷ arity ∷ [])
 declared_right t t' section from at name arity opened e = by (fresh t.names from (count t section) name) refl (number_of arity) refl e
   where
-    small : (v : ℕ) → fresh t.names from (count t section) name ≡ true → number_of arity ≡ Value v → (b : Bool) → ltb max_arity v ≡ b
-        → declared t section name (cond b (Fault out_of_range (at + 1 + length name + 1)) (Symbol v)) ≡ right t'
+    small : (v : ℕ) → fresh t.names from (count t section) name ≡ true → number_of arity ≡ Some v → (b : Bool) → ltb max_arity v ≡ b
+        → declared t section name (cond b (wrong out_of_range (at + 1 + length name + 1)) (right v)) ≡ right t'
         → Declaration t t' section from (name ∷ arity ∷ [])
     small v new number true b q = let z : ◌≡◌ {A = ℕ} 0 1 = cc in absurd (omega arith)
     small v new number false b q =
@@ -86,11 +84,11 @@ declared_right t t' section from at name arity opened e = by (fresh t.names from
           becomes = cc;
         }
 
-    by : (b : Bool) → fresh t.names from (count t section) name ≡ b → (k : Number) → number_of arity ≡ k
-        → declared t section name (cond b (arity_of (at + 1 + length name + 1) k) (Fault bad_name (at + 1))) ≡ right t'
+    by : (b : Bool) → fresh t.names from (count t section) name ≡ b → (k : Option ℕ) → number_of arity ≡ k
+        → declared t section name (cond b (arity_of (at + 1 + length name + 1) k) (wrong bad_name (at + 1))) ≡ right t'
         → Declaration t t' section from (name ∷ arity ∷ [])
     by true new None number q = let z : ◌≡◌ {A = ℕ} 0 1 = cc in absurd (omega arith)
-    by true new (Value v) number q = small v new number (ltb max_arity v) refl q
+    by true new (Some v) number q = small v new number (ltb max_arity v) refl q
     by false new k number q = let z : ◌≡◌ {A = ℕ} 0 1 = cc in absurd (omega arith)
 
 declaration_read : (t t' : TextSoFar) (section from at : ℕ) (ss : List (List ℕ)) → declaration_line t section from at ss ≡ right t' → Declaration t t' section from ss

@@ -6,6 +6,7 @@ use mathlib.Core.Bool.{Bool, true, false, cond, ◌&&◌}
 use mathlib.Core.List.{List, [], ◌∷◌}
 use lib.ListN.{length, get_or}
 use lib.Dec.{eqb, ltb, leb}
+use Rattle.std.specs.Prelude.{Option, Some, None}
 use Rattle.terms.specs.Cells.{atom_cells}
 use Rattle.program.specs.Limits.{max_arity, max_body, max_variable, max_words, max_bytes}
 use Rattle.program.specs.Reply.{accepted, no_room, out_of_range, undeclared}
@@ -14,20 +15,14 @@ use Rattle.text.specs.Line.{parts, tab, line_feed}
 use Rattle.text.specs.Name.{padded, seek}
 use Rattle.text.specs.Token.{token_of, number_of}
 use Rattle.text.specs.declared.token.Token.{Token}
-use Rattle.text.specs.declared.token.Token.TheVariants.{Wrong, Name, Variable}
-use Rattle.text.specs.declared.token.Number.{Number}
-use Rattle.text.specs.declared.token.Number.TheVariants.{None, Value}
+use Rattle.text.specs.declared.token.Token.TheVariants.{Name, Variable}
 use Rattle.text_lines.specs.Keyword.{clause, query, kind_of}
 use Rattle.text_lines.specs.declared.keyword.Kind.{Kind}
 use Rattle.text_lines.specs.declared.keyword.Kind.TheVariants.{Pred, Func, Clause, Query, Other}
-use Rattle.cells.specs.declared.look.Look.{Look}
-use Rattle.cells.specs.declared.look.Look.TheVariants.{Fault, Symbol, Variable as Met}
-use Rattle.declarations.specs.declared.declare.Declared.{Declared}
-use Rattle.declarations.specs.declared.declare.Declared.TheVariants.{Fault as DeclaredFault, Symbol as DeclaredSymbol}
 use Rattle.cells.specs.Symbols.{Symbols}
 use Rattle.cells.specs.TextSoFar.{Read, wrong, right, next, pred_section, func_section, clause_section, TextSoFar, nothing, count, later, symbols_of, Scenario, Line, more, last}
 use Rattle.declarations.specs.Declarations.{declaring, fresh, arity_of, symbol_of, two, may_come, opens, declared, declaration_line, pred_line, func_line}
-use Rattle.cells.specs.Cells.{Row, mode_of, no_cells, named_of, variable_at, start_of, argument_of, look_of, taken_at, complete, cells_of}
+use Rattle.cells.specs.Cells.{Row, mode_of, no_cells, named_of, variable_at, start_of, argument_of, look_of, taken_at, complete, cells_of, Look, fault, symbol, met}
 use Rattle.text_lines.specs.Lines.{with_clause, with_goal, clause_line, query_line, line_of, fields_of, ending, lines_of, all_lines}
 use Rattle.reader.specs.Read.{counted, read_of, in_rooms, answer_of, reply_of}
 use Rattle.reader.proofs.TextLines.{after_line, lines_of_more}
@@ -37,13 +32,9 @@ FaultyBy (wrong number place) = FaultNumber number
 FaultyBy (right a) = Unit {0}
 
 abbrev LookFaulty : Look → Type 0
-LookFaulty (Fault number) = FaultNumber number
-LookFaulty (Symbol word arity) = Unit {0}
-LookFaulty (Met v grounded) = Unit {0}
-
-abbrev DeclaredFaulty : Declared → Type 0
-DeclaredFaulty (DeclaredFault number place) = FaultNumber number
-DeclaredFaulty (DeclaredSymbol arity) = Unit {0}
+LookFaulty (fault number) = FaultNumber number
+LookFaulty (symbol word arity) = Unit {0}
+LookFaulty (met v grounded) = Unit {0}
 
 -- what holds of both holds of the choice
 pub either : {A : Type 0} (P : A → Type 0) (b : Bool) {x y : A} → P x → P y → P (cond b x y)
@@ -63,21 +54,21 @@ variable_faults seen modes v grounded =
     (either LookFaulty (ltb seen v) (omega arith)
     (either LookFaulty (ltb v seen) (either LookFaulty (eqb (get_or modes v 0) (mode_of grounded)) tt (omega arith)) tt))
 
-start_faults : (t : Symbols) (atoms : ℕ) (s : List ℕ) (k : Token) → LookFaulty (start_of t atoms s k)
-start_faults t atoms s Wrong = omega arith
-start_faults t atoms s Name = either LookFaulty (ltb max_body atoms) (omega arith) (named_faults t.names t.arities 0 t.predicates s)
-start_faults t atoms s (Variable grounded v) = either LookFaulty (ltb max_body atoms) {x = Fault out_of_range} {y = Fault undeclared} (omega arith) (omega arith)
+start_faults : (t : Symbols) (atoms : ℕ) (s : List ℕ) (k : Option Token) → LookFaulty (start_of t atoms s k)
+start_faults t atoms s None = omega arith
+start_faults t atoms s (Some Name) = either LookFaulty (ltb max_body atoms) (omega arith) (named_faults t.names t.arities 0 t.predicates s)
+start_faults t atoms s (Some (Variable grounded v)) = either LookFaulty (ltb max_body atoms) {x = fault out_of_range} {y = fault undeclared} (omega arith) (omega arith)
 
-argument_faults : (t : Symbols) (r : Row) (s : List ℕ) (k : Token) → LookFaulty (argument_of t r s k)
-argument_faults t r s Wrong = omega arith
-argument_faults t r s Name =
+argument_faults : (t : Symbols) (r : Row) (s : List ℕ) (k : Option Token) → LookFaulty (argument_of t r s k)
+argument_faults t r s None = omega arith
+argument_faults t r s (Some Name) =
     either LookFaulty (leb atom_cells r.cells) (omega arith) (named_faults t.names t.arities t.predicates (t.predicates + t.functions) s)
-argument_faults t r s (Variable grounded v) = either LookFaulty (leb atom_cells r.cells) (omega arith) (variable_faults r.variables r.modes v grounded)
+argument_faults t r s (Some (Variable grounded v)) = either LookFaulty (leb atom_cells r.cells) (omega arith) (variable_faults r.variables r.modes v grounded)
 
 taken_faults : (r : Row) (at : ℕ) (l : Look) → LookFaulty l → FaultyBy (taken_at r at l)
-taken_faults r at (Fault number) h = h
-taken_faults r at (Symbol word arity) h = tt
-taken_faults r at (Met v grounded) h = tt
+taken_faults r at (fault number) h = h
+taken_faults r at (symbol word arity) h = tt
+taken_faults r at (met v grounded) h = tt
 
 cells_faults : (ss : List (List ℕ)) (t : Symbols) (query : Bool) (r : Row) (at : ℕ) → FaultyBy (cells_of t query r at ss)
 cells_faults [] t query r at = either FaultyBy (complete r) tt (omega arith)
@@ -88,18 +79,18 @@ cells_faults (s ∷ ss) t query r at =
     (either LookFaulty (eqb r.wanted 0) (start_faults t r.atoms s (token_of query s)) (argument_faults t r s (token_of query s))))
     (λ r'. cells_faults ss t query r' (at + 1 + length s)))
 
-arity_faults : (at : ℕ) (n : Number) → DeclaredFaulty (arity_of at n)
+arity_faults : (at : ℕ) (n : Option ℕ) → FaultyBy (arity_of at n)
 arity_faults at None = omega arith
-arity_faults at (Value n) = either DeclaredFaulty (ltb max_arity n) (omega arith) tt
+arity_faults at (Some n) = either FaultyBy (ltb max_arity n) (omega arith) tt
 
-declared_faults : (t : TextSoFar) (section : ℕ) (name : List ℕ) (d : Declared) → DeclaredFaulty d → FaultyBy (declared t section name d)
-declared_faults t section name (DeclaredFault number place) h = h
-declared_faults t section name (DeclaredSymbol arity) h = tt
+declared_faults : (t : TextSoFar) (section : ℕ) (name : List ℕ) (d : Read ℕ) → FaultyBy d → FaultyBy (declared t section name d)
+declared_faults t section name (wrong number place) h = h
+declared_faults t section name (right arity) h = tt
 
 symbol_faults : (t : TextSoFar) (section from n at : ℕ) (name arity : List ℕ) → FaultyBy (declared t section name (symbol_of t.names from n at name arity))
 symbol_faults t section from n at name arity =
     declared_faults t section name (symbol_of t.names from n at name arity)
-    (either DeclaredFaulty (fresh t.names from n name) (arity_faults (at + 1 + length name + 1) (number_of arity)) (omega arith))
+    (either FaultyBy (fresh t.names from n name) (arity_faults (at + 1 + length name + 1) (number_of arity)) (omega arith))
 
 opens_faults : {A : Type 0} (t : TextSoFar) (section at : ℕ) (o : Read A) → FaultyBy o → FaultyBy (opens t section at o)
 opens_faults t section at o h =

@@ -8,15 +8,14 @@ use mathlib.Core.List.{List, [], ◌∷◌}
 use lib.ListN.{length, get_or}
 use lib.Dec.{eqb, leb}
 use borrow.Author.Tests.{leb-true, eqb-true, eqb-false, ne_eqb, not-true}
+use Rattle.std.specs.Prelude.{Option, Some, None}
 use Rattle.program.specs.Limits.{max_variable}
 use Rattle.text.specs.Room.{in_room}
 use Rattle.text.specs.Line.{up_to}
 use Rattle.text.specs.Token.{lower_a, digit0, digit9, underscore, upper_v, upper_g, is_lower, is_digit, is_name_byte, every, is_name, is_number, value_from, value, capped, number_of, signed, variable_of, sign_of, token_of}
 use Rattle.text.specs.Name.{name_bytes, padded, entry, same, seek}
 use Rattle.text.specs.Decimal.{decimal}
-use Rattle.text.specs.declared.token.Token.TheVariants.{Wrong, Name, Variable}
-use Rattle.text.specs.declared.token.Number.{Number}
-use Rattle.text.specs.declared.token.Number.TheVariants.{None, Value}
+use Rattle.text.specs.declared.token.Token.TheVariants.{Name, Variable}
 use Rattle.text.proofs.Names.{same_equal}
 use Rattle.cells.specs.Cells.{mode_of}
 use Rattle.written_lines.specs.Tokens.{name_in, variable_token}
@@ -82,10 +81,10 @@ digits_are (d ∷ c ∷ b ∷ ds) e h =
     absurd (omega arith)
 
 -- a number up to 15 that is read is written with the same digits
-pub number_decimal : (ds : List ℕ) (n : ℕ) → number_of ds ≡ Value n → n ≤ max_variable → ds ≡ decimal n
+pub number_decimal : (ds : List ℕ) (n : ℕ) → number_of ds ≡ Some n → n ≤ max_variable → ds ≡ decimal n
 number_decimal ds n e h = by (is_number ds) refl e
   where
-    by : (t : Bool) → is_number ds ≡ t → cond t (Value (capped ds)) None ≡ Value n → ds ≡ decimal n
+    by : (t : Bool) → is_number ds ≡ t → cond t (Some (capped ds)) None ≡ Some n → ds ≡ decimal n
     by true f q =
         let is : capped ds ≡ n = cc in
         let same-value : value ds ≡ n = omega arith in
@@ -105,52 +104,52 @@ pub record VariableToken (query : Bool) (s : List ℕ) (grounded : Bool) (v : �
   pub is : v ≤ max_variable → s ≡ sign_byte grounded ∷ decimal v
   pub any : query ≡ false → grounded ≡ false
 
-signed_is : (query grounded : Bool) (b : ℕ) (ds : List ℕ) (grounded' : Bool) (v : ℕ) (n : Number) → number_of ds ≡ n → b ≡ sign_byte grounded → (query ≡ false → grounded ≡ false)
-    → signed grounded n ≡ Variable grounded' v → VariableToken query (b ∷ ds) grounded' v
+signed_is : (query grounded : Bool) (b : ℕ) (ds : List ℕ) (grounded' : Bool) (v : ℕ) (n : Option ℕ) → number_of ds ≡ n → b ≡ sign_byte grounded → (query ≡ false → grounded ≡ false)
+    → signed grounded n ≡ Some (Variable grounded' v) → VariableToken query (b ∷ ds) grounded' v
 signed_is query grounded b ds grounded' v None f e any q = let z : ◌≡◌ {A = ℕ} 0 1 = cc in absurd (omega arith)
-signed_is query grounded b ds grounded' v (Value n) f e any q =
+signed_is query grounded b ds grounded' v (Some n) f e any q =
     let alike : grounded ≡ grounded' = cc in
     let number : n ≡ v = cc in
     rw (← alike, ← number) (record { is = λ h. ap₂ (λ (x : ℕ) (l : List ℕ). x ∷ l) e (number_decimal ds n f h); any = any })
 
-pub variable_token_law : (query : Bool) (s : List ℕ) (grounded : Bool) (v : ℕ) → token_of query s ≡ Variable grounded v → VariableToken query s grounded v
+pub variable_token_law : (query : Bool) (s : List ℕ) (grounded : Bool) (v : ℕ) → token_of query s ≡ Some (Variable grounded v) → VariableToken query s grounded v
 variable_token_law query [] grounded v e = let z : ◌≡◌ {A = ℕ} 0 1 = cc in absurd (omega arith)
 variable_token_law query (b ∷ ds) grounded v e = by (is_name (b ∷ ds)) e
   where
-    third : (t : Bool) → query && eqb b upper_g ≡ t → cond t (variable_of true ds) Wrong ≡ Variable grounded v → VariableToken query (b ∷ ds) grounded v
+    third : (t : Bool) → query && eqb b upper_g ≡ t → cond t (variable_of true ds) None ≡ Some (Variable grounded v) → VariableToken query (b ∷ ds) grounded v
     third true f q =
         let parts = both_true query (eqb b upper_g) f in
         signed_is query true b ds grounded v (number_of ds) refl (eqb-true b upper_g parts.1)
         (λ no-query. let z : ◌≡◌ {A = ℕ} 0 1 = cc in absurd (omega arith)) q
     third false f q = let z : ◌≡◌ {A = ℕ} 0 1 = cc in absurd (omega arith)
 
-    second : (t : Bool) → eqb b upper_v ≡ t → cond t (variable_of false ds) (cond (query && eqb b upper_g) (variable_of true ds) Wrong) ≡ Variable grounded v
+    second : (t : Bool) → eqb b upper_v ≡ t → cond t (variable_of false ds) (cond (query && eqb b upper_g) (variable_of true ds) None) ≡ Some (Variable grounded v)
         → VariableToken query (b ∷ ds) grounded v
     second true f q = signed_is query false b ds grounded v (number_of ds) refl (eqb-true b upper_v f) (λ no-query. refl) q
     second false f q = third (query && eqb b upper_g) refl q
 
-    by : (t : Bool) → cond t Name (sign_of query b ds) ≡ Variable grounded v → VariableToken query (b ∷ ds) grounded v
+    by : (t : Bool) → cond t (Some Name) (sign_of query b ds) ≡ Some (Variable grounded v) → VariableToken query (b ∷ ds) grounded v
     by true q = let z : ◌≡◌ {A = ℕ} 0 1 = cc in absurd (omega arith)
     by false q = second (eqb b upper_v) refl q
 
-number_no_name : (grounded : Bool) (n : Number) → signed grounded n ≡ Name → ⊥
+number_no_name : (grounded : Bool) (n : Option ℕ) → signed grounded n ≡ Some Name → ⊥
 number_no_name grounded None q = let z : ◌≡◌ {A = ℕ} 0 1 = cc in omega arith
-number_no_name grounded (Value n) q = let z : ◌≡◌ {A = ℕ} 0 1 = cc in omega arith
+number_no_name grounded (Some n) q = let z : ◌≡◌ {A = ℕ} 0 1 = cc in omega arith
 
 -- a token that is taken for a name is one
-pub name_token : (query : Bool) (s : List ℕ) → token_of query s ≡ Name → is_name s ≡ true
+pub name_token : (query : Bool) (s : List ℕ) → token_of query s ≡ Some Name → is_name s ≡ true
 name_token query [] e = let z : ◌≡◌ {A = ℕ} 0 1 = cc in absurd (omega arith)
 name_token query (b ∷ ds) e = by (is_name (b ∷ ds)) e
   where
-    third : (t : Bool) → cond t (variable_of true ds) Wrong ≡ Name → ⊥
+    third : (t : Bool) → cond t (variable_of true ds) None ≡ Some Name → ⊥
     third true q = number_no_name true (number_of ds) q
     third false q = let z : ◌≡◌ {A = ℕ} 0 1 = cc in omega arith
 
-    second : (t : Bool) → cond t (variable_of false ds) (cond (query && eqb b upper_g) (variable_of true ds) Wrong) ≡ Name → ⊥
+    second : (t : Bool) → cond t (variable_of false ds) (cond (query && eqb b upper_g) (variable_of true ds) None) ≡ Some Name → ⊥
     second true q = number_no_name false (number_of ds) q
     second false q = third (query && eqb b upper_g) q
 
-    by : (t : Bool) → cond t Name (sign_of query b ds) ≡ Name → t ≡ true
+    by : (t : Bool) → cond t (Some Name) (sign_of query b ds) ≡ Some Name → t ≡ true
     by true q = refl
     by false q = absurd (second (eqb b upper_v) q)
 

@@ -14,11 +14,9 @@ use Rattle.terms.specs.Cells.{first_variable, atom_cells, enc, encs, Keeps, Keep
 use Rattle.program.specs.Limits.{max_body}
 use Rattle.program.specs.Atoms.{meet}
 use Rattle.program.specs.Within.{after, afters, Numbered, Numbereds}
-use Rattle.cells.specs.declared.look.Look.{Look}
-use Rattle.cells.specs.declared.look.Look.TheVariants.{Symbol, Variable as Met}
 use Rattle.cells.specs.Symbols.{Symbols}
 use Rattle.cells.specs.TextSoFar.{right}
-use Rattle.cells.specs.Cells.{Row, mode_of, look_of, taken_at, with_symbol, with_variable, complete, cells_of}
+use Rattle.cells.specs.Cells.{Row, mode_of, look_of, taken_at, with_symbol, with_variable, complete, cells_of, Look, symbol, met}
 use Rattle.written_lines.specs.Tokens.{symbol_token, variable_token, argument_token, atom_tokens}
 use Rattle.round_trips.proofs.ReadNames.{SoundNames}
 use Rattle.round_trips.proofs.WrittenCells.{Mode, modes_up_to, declared_symbols, row_at, variable_read, start_symbol, argument_symbol, argument_variable}
@@ -85,7 +83,7 @@ module _ (names ps fs ws : List ℕ) (query : Bool) (ms : List ℕ)
       let high : first_variable ≤ first_variable + v = omega arith in
       let same : first_variable + v - first_variable ≡ v = omega arith in
       rw (le-ltb (first_variable + v) first_variable high, same)
-      (take_token symbols query (row_at ms atoms (suc m) cells seen out) (variable_token ms v) ss (Met v x.0)
+      (take_token symbols query (row_at ms atoms (suc m) cells seen out) (variable_token ms v) ss (met v x.0)
       (row_at ms atoms m (cells + 1) (meet seen v) (out ++ (first_variable + v) ∷ [])) r' (open_row query ms atoms m cells seen out)
       (argument_variable names ps fs ws query ms sound v atoms m cells seen out x.0 h known few x.1 x.2)
       (λ at. ap right (variable_row ms atoms m cells seen v out x.0 known x.2)) k)
@@ -95,7 +93,7 @@ module _ (names ps fs ws : List ℕ) (query : Bool) (ms : List ℕ)
       → TakesTo symbols query (row_at ms atoms (suc m) cells seen out) (token f ∷ ss) r'
   take_function f atoms m cells seen out ss r' h low few k =
       rw (lt-ltb f first_variable low)
-      (take_token symbols query (row_at ms atoms (suc m) cells seen out) (symbol_token names (length ps + f)) ss (Symbol f (get_or fs f 0))
+      (take_token symbols query (row_at ms atoms (suc m) cells seen out) (symbol_token names (length ps + f)) ss (symbol f (get_or fs f 0))
       (row_at ms atoms (get_or fs f 0 + m) (cells + 1) seen (out ++ f ∷ [])) r' (open_row query ms atoms m cells seen out)
       (argument_symbol names ps fs ws query ms sound f atoms m cells seen out h few)
       (λ at. ap right (function_row ms atoms m cells seen f (get_or fs f 0) out)) k)
@@ -138,7 +136,7 @@ module _ (names ps fs ws : List ℕ) (query : Bool) (ms : List ℕ)
       → TakesTo symbols query (row_at ms atoms 0 cells seen out) (atom_tokens names (length ps) ms (enc (app w us)) ++ ss) r'
   take_predicate w us atoms cells seen out ss r' h arity keeps short numbered few first k =
       let place : 1 + length (encs us) ≡ suc (length (encs us)) = omega arith in
-      take_token symbols query (row_at ms atoms 0 cells seen out) (symbol_token names w) (map token (encs us) ++ ss) (Symbol w (get_or ps w 0))
+      take_token symbols query (row_at ms atoms 0 cells seen out) (symbol_token names w) (map token (encs us) ++ ss) (symbol w (get_or ps w 0))
       (row_at ms (atoms + 1) (get_or ps w 0) 1 seen (out ++ w ∷ [])) r' first
       (start_symbol names ps fs ws query ms sound w atoms cells seen out h few)
       (λ at. ap right (rw (zero-add (get_or ps w 0))))

@@ -15,7 +15,6 @@ use Rattle.text.specs.Decimal.{decimal}
 use Rattle.text_lines.specs.Keyword.{pred, func}
 use Rattle.cells.specs.TextSoFar.{right, TextSoFar, nothing, more as goesOn, Scenario}
 use Rattle.declarations.specs.Declarations.{symbol_of}
-use Rattle.declarations.specs.declared.declare.Declared.TheVariants.{Symbol}
 use Rattle.text_lines.specs.Lines.{fields_of}
 use Rattle.writer.specs.Names.{first_of}
 use Rattle.written_lines.specs.Tokens.{symbol_token}
@@ -34,7 +33,7 @@ arity_printed arity h = let d = number_printed arity (omega arith) in record { b
 -- a declaration's name and arity, behind the names before it
 symbol_new : (names : List ℕ) (predicates from m i arity at : ℕ) → i ≡ from + m → first_of predicates i ≡ from → i * name_bytes ≤ length names
     → SoundName names predicates i → arity ≤ max_arity
-    → symbol_of (first_names names i) from m at (symbol_token names i) (decimal arity) ≡ Symbol arity
+    → symbol_of (first_names names i) from m at (symbol_token names i) (decimal arity) ≡ right arity
 symbol_new names predicates from m i arity at is e l sound h =
     rw (
       sound.name,

@@ -5,14 +5,16 @@ use native.Mathlib.Decide.{dec_lt, ℕ_discrete}
 use native.Mathlib.Nat.{mod-lt}
 use mathlib.Core.Path.{◌≡◌, refl, ap, ◌∙◌}
 use mathlib.Core.Logic.{◌⊎◌, inl, inr, ⊎_elim, ◌↔◌}
-use mathlib.Core.List.{List}
-use lib.ListN.{length, get_or, set, drop, length-set, length-drop, get_or-eq_default}
+use mathlib.Core.List.{List, []}
+use Rattle.std.proofs.lemmas.List.{take_all, drop_all, append-nil, take-append-drop, take-set-le, drop-set-add}
+use borrow.Rule.Slice.PartMut.{put_mid}
+use lib.ListN.{length, get_or, set, take, drop, length-set, length-drop, get_or-eq_default}
 use lib.Seq.{get_or-set_same, get_or-set_other, length-take-le, get_or-take, get_or-drop}
 use lib.Bits.{bit_and, bit_or, bit_xor, differ, and_step, and_shr, xor_step, xor_shr}
 use Rattle.terms.specs.Mask.{Has}
 use Rattle.terms.proofs.Masks.{has_none, has_or, has_one}
 use Rattle.program.specs.Lists.{between}
-use Rattle.rows.specs.MaskSet.{InSet}
+use Rattle.rows.specs.MaskSet.{with_mask, InSet}
 use Rattle.rows.specs.KeptSets.{masks_in, KeptAt, Gained, Unkept}
 
 -- the set, as a part of the words
@@ -20,7 +22,7 @@ module _ (kept : List ℕ) (first size : ℕ) (within : first + size ≤ length 
   pub part_length : length (between kept first end) ≡ size
   part_length = let l : end - first ≤ length (drop first kept) = rw length-drop (omega arith) in length-take-le (end - first) (drop first kept) l ∙ omega arith
 
-  part_word : (i : ℕ) → i < size → get_or (between kept first end) i 0 ≡ get_or kept (first + i) 0
+  pub part_word : (i : ℕ) → i < size → get_or (between kept first end) i 0 ≡ get_or kept (first + i) 0
   part_word i l = get_or-take (end - first) (drop first kept) i 0 (omega arith) ∙ get_or-drop first kept i 0
 
   pub part_members : (q : ℕ) → InSet (between kept first end) q ↔ ((q < masks_in size) × KeptAt kept first q)
@@ -33,12 +35,23 @@ module _ (kept : List ℕ) (first size : ℕ) (within : first + size ≤ length 
         λ (l, h). absurd (o l),
       )
 
+-- the words, where a mask is put into the part of them from `first` on
+pub put_in_part : (kept : List ℕ) (first q : ℕ) (part : List ℕ) → first + q / 16 < length kept → part ≡ with_mask (take (length kept - first) (drop first kept)) q
+    → put_mid first (length kept - first) kept part ≡ set kept (first + q / 16) (bit_or (get_or kept (first + q / 16) 0) (2 ^ (q % 16)))
+put_in_part kept first q part within is =
+    let word = bit_or (get_or kept (first + q / 16) 0) (2 ^ (q % 16)) in
+    let all : take (length kept - first) (drop first kept) ≡ drop first kept = take_all (length kept - first) (drop first kept) (omega (arith, length-drop first kept)) in
+    let its : part ≡ set (drop first kept) (q / 16) word = is ∙ rw (all, get_or-drop first kept (q / 16) 0) refl in
+    let none : drop (length kept - first) (drop first kept) ≡ [] = drop_all (length kept - first) (drop first kept) (omega (arith, length-drop first kept)) in
+    rw (its, none, append-nil (set (drop first kept) (q / 16) word), ← take-set-le first kept (first + q / 16) word (omega arith), ← drop-set-add first kept (q / 16) word)
+    (take-append-drop first (set kept (first + q / 16) word))
+
 -- a mask is put in
 module _ (kept : List ℕ) (first q : ℕ) (within : first + q / 16 < length kept) where
-  abbrev with_mask : List ℕ
-  with_mask = set kept (first + q / 16) (bit_or (get_or kept (first + q / 16) 0) (2 ^ (q % 16)))
+  abbrev with_bit : List ℕ
+  with_bit = set kept (first + q / 16) (bit_or (get_or kept (first + q / 16) 0) (2 ^ (q % 16)))
 
-  pub mask_kept : (size : ℕ) → q < masks_in size → Gained (λ p. p ≡ q) first size kept with_mask
+  pub mask_kept : (size : ℕ) → q < masks_in size → Gained (λ p. p ≡ q) first size kept with_bit
   mask_kept size small =
       record {
         as_long = length-set kept (first + q / 16) (bit_or (get_or kept (first + q / 16) 0) (2 ^ (q % 16)));
@@ -46,7 +59,7 @@ module _ (kept : List ℕ) (first q : ℕ) (within : first + q / 16 < length kep
         others = λ i h. get_or-set_other kept (first + q / 16) i (bit_or (get_or kept (first + q / 16) 0) (2 ^ (q % 16))) 0 (λ e. ⊎_elim (λ l. omega arith) (λ l. omega arith) h);
       }
     where
-      at : (p : ℕ) → Dec (p / 16 ≡ q / 16) → KeptAt with_mask first p ↔ (KeptAt kept first p ⊎ (p ≡ q))
+      at : (p : ℕ) → Dec (p / 16 ≡ q / 16) → KeptAt with_bit first p ↔ (KeptAt kept first p ⊎ (p ≡ q))
       at p (no o) =
           rw (get_or-set_other kept (first + q / 16) (first + p / 16) (bit_or (get_or kept (first + q / 16) 0) (2 ^ (q % 16))) 0 (λ e. o (omega arith)))
           (inl, ⊎_elim (λ h. h) (λ e. absurd (o (ap (λ (x : ℕ). x / 16) e))))

@@ -1,8 +1,9 @@
 -- The store: rows in a table with distinct keys, found through buckets; and what adding a row does to it.
-use Rattle.std.specs.Prelude.{ℕ, ◌+◌, ◌*◌, ◌≤◌, ◌<◌, ◌≡◌, length, get_or, set}
+use Rattle.std.specs.Prelude.{ℕ, ◌+◌, ◌*◌, ◌≤◌, ◌<◌, ◌≡◌, length, get_or, set, Result, Ok, Err}
 use mathlib.Core.List.{List, [], ◌∷◌, ◌++◌, Memᴰ}
 use Rattle.program.specs.Limits.{row_size, masks, max_rows}
 use Rattle.rows.specs.Rows.{slots, buckets, round_at, slot_at, mask_at, next_at, key_of, key_at, keys_of, bucket_at}
+use Rattle.rows.specs.declared.store.NoRoom.{NoRoom}
 use Rattle.rows.specs.Chains.{Chained}
 
 pub record Store (table heads : List ℕ) (n : ℕ) : Type 0 where
@@ -32,6 +33,11 @@ pub record Grown (table heads : List ℕ) (n round slot mask : ℕ) (table' head
   pub its_round : round_at table' n ≡ round
   pub its_slot : slot_at table' n ≡ slot
   pub its_mask : mask_at table' n ≡ mask
+
+-- the number of rows that the answer of a step stands for: 1 more than the room where there is no room for a row
+abbrev pub reached : ℕ → Result ℕ NoRoom → ℕ
+reached room (Ok n) = n
+reached room (Err e) = room + 1
 
 -- "A row appears once": the key was there already, or its row is new, or it is new and there is no room
 pub data Added (table heads : List ℕ) (n room round slot mask r : ℕ) (table' heads' : List ℕ) : Type 0 where

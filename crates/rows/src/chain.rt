@@ -6,7 +6,6 @@ ghost use Rattle.rows.specs.Linked.{BySlot, Linked};
 
 use crate::row::slot_at;
 use program::limits::ROW_SIZE;
-use terms::walk::wide;
 
 // Puts the rows from..to into the chains of their slots, each before the older ones.
 pub fn link(table: &mut [u16], heads: &mut [u16], from: usize, to: usize)
@@ -15,12 +14,10 @@ pub fn link(table: &mut [u16], heads: &mut [u16], from: usize, to: usize)
     requires by_index { (r : ℕ) → r < to → slot_at table.old r < slots }
     ensures { Linked table.old from to table.new heads.new }
 {
-    let mut r = from;
-    while r < to {
-        let slot = wide(slot_at(table, r));
+    for r in from..to {
+        let slot = usize::from(slot_at(table, r));
         let older = heads[slot];
         table[ROW_SIZE * r + 3] = older;
         heads[slot] = (r + 1) as u16;
-        r += 1;
     }
 }

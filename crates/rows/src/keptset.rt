@@ -4,21 +4,17 @@ ghost use Rattle.std.specs.Prelude.{◌≡◌, ◌↔◌, ℕ, ◌+◌, ◌*◌,
 ghost use Rattle.rows.specs.MaskSet.{InSet};
 ghost use Rattle.rows.specs.KeptSets.{masks_in, KeptAt, Gained, Unkept};
 
-use crate::maskset::one_bit;
-use terms::walk::wide;
+use crate::maskset::{contains, put};
 
 // How many things have a set.
 pub const THINGS: usize = 64;
-
-const BITS: u16 = 16;
 
 // Whether mask q is kept for thing k.
 pub fn is_kept(kept: &[u16], size: usize, k: usize, q: u16) -> bool
     requires { size * k + q / 16 < length kept.now }
     ensures { T result ↔ KeptAt kept.now (size * k) q }
 {
-    let at = size * k + wide(q / BITS);
-    (kept[at] >> (q % BITS)) % 2 == 1
+    contains(&kept[size * k..], q)
 }
 
 // Keeps mask q for thing k.
@@ -26,8 +22,7 @@ pub fn keep_mask(kept: &mut [u16], size: usize, k: usize, q: u16)
     requires { size * k + q / 16 < length kept.old }
     ensures { q < masks_in size → Gained (λ p. p ≡ q) (size * k) size kept.old kept.new }
 {
-    let at = size * k + wide(q / BITS);
-    kept[at] = kept[at] | one_bit(q % BITS);
+    put(&mut kept[size * k..], q);
 }
 
 // Keeps the masks of the set `found` for thing k.
@@ -36,11 +31,9 @@ pub fn keep_masks(found: &[u16], size: usize, k: usize, kept: &mut [u16])
     ensures { Gained (InSet found.now) (size * k) size kept.old kept.new }
 {
     let first = size * k;
-    let mut i = 0;
-    while i < size {
+    for (i, word) in found[..size].iter().enumerate() {
         let at = first + i;
-        kept[at] = kept[at] | found[i];
-        i += 1;
+        kept[at] |= *word;
     }
 }
 
@@ -52,13 +45,11 @@ pub fn take_kept(kept: &[u16], size: usize, k: usize, found: &mut [u16]) -> bool
 {
     let first = size * k;
     let mut left = 0u16;
-    let mut i = 0;
-    while i < size {
+    for (i, gone) in kept[first..first + size].iter().enumerate() {
         let word = found[i];
-        let rest = word ^ (word & kept[first + i]);
+        let rest = word ^ (word & *gone);
         found[i] = rest;
-        left = left | rest;
-        i += 1;
+        left |= rest;
     }
     0 < left
 }

@@ -5,13 +5,13 @@ ghost use Rattle.rows.specs.Rows.{slots, buckets, round_at, slot_at, mask_at, be
 ghost use Rattle.rows.specs.Store.{with_row};
 
 use program::limits::ROW_SIZE;
-use terms::walk::wide;
 
 // Masks are below this.
 pub const MASKS: usize = 65536;
 
 pub const BUCKETS: usize = 2048;
 
+// Each word of a row is one index: a function that took the word's place as a const parameter would add a name and save nothing.
 pub fn round_at(table: &[u16], r: usize) -> u16
     requires { row_size * r + 4 < length table.now }
     ensures { result ≡ round_at table.now r }
@@ -33,20 +33,20 @@ pub fn mask_at(table: &[u16], r: usize) -> u16
     table[ROW_SIZE * r + 2]
 }
 
-// The link to the row before of the same slot.
+// The link to the row before of the same slot: 1 + that row, or 0 where there is none, as it stands in the lent table.
 pub fn before_at(table: &[u16], r: usize) -> usize
     requires { row_size * r + 4 < length table.now }
     ensures { result ≡ before_at table.now r }
 {
-    wide(table[ROW_SIZE * r + 3])
+    usize::from(table[ROW_SIZE * r + 3])
 }
 
-// The link to the row before in the same bucket.
+// The link to the row before in the same bucket, which is such a number too.
 pub fn next_at(table: &[u16], r: usize) -> usize
     requires { row_size * r + 4 < length table.now }
     ensures { result ≡ next_at table.now r }
 {
-    wide(table[ROW_SIZE * r + 4])
+    usize::from(table[ROW_SIZE * r + 4])
 }
 
 // Whether row r has this slot and this mask.
@@ -54,11 +54,7 @@ pub fn is_at(table: &[u16], r: usize, slot: u16, mask: u16) -> bool
     requires { row_size * r + 4 < length table.now }
     ensures { T result ↔ (slot_at table.now r ≡ slot) × (mask_at table.now r ≡ mask) }
 {
-    if slot_at(table, r) == slot {
-        mask_at(table, r) == mask
-    } else {
-        false
-    }
+    slot_at(table, r) == slot && mask_at(table, r) == mask
 }
 
 // The bucket of a slot and a mask.
@@ -66,7 +62,7 @@ pub fn bucket(slot: u16, mask: u16) -> usize
     requires { (slot < slots) × (mask < masks) }
     ensures { (result ≡ bucket_of slot mask) × (result < buckets) }
 {
-    (wide(slot) * MASKS + wide(mask)) * 2654435769 / 1048576 % BUCKETS
+    (usize::from(slot) * MASKS + usize::from(mask)) * 2654435769 / 1048576 % BUCKETS
 }
 
 // Writes row r, which has no row before it of the same slot yet.

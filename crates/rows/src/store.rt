@@ -1,12 +1,11 @@
 // The store: a table in which each key has one row, found through buckets.
 ghost use mathlib.Core.List.{Memᴰ};
-ghost use Rattle.std.specs.Prelude.{◌↔◌, ◌+◌, ◌*◌, ◌≤◌, ◌<◌, length, T};
+ghost use Rattle.std.specs.Prelude.{◌↔◌, ◌+◌, ◌*◌, ◌≤◌, ◌<◌, length, T, IfOk};
 ghost use Rattle.program.specs.Limits.{row_size, max_rows};
 ghost use Rattle.rows.specs.Rows.{slots, key_of, keys_of};
-ghost use Rattle.rows.specs.Store.{Store, Added};
+ghost use Rattle.rows.specs.Store.{Store, Added, reached};
 
 use crate::row::{bucket, is_at, next_at, put};
-use terms::walk::wide;
 
 // Whether one of the first n rows has this slot and this mask: a walk along the chain of their bucket.
 pub fn holds(table: &[u16], heads: &[u16], n: usize, slot: u16, mask: u16) -> bool
@@ -15,7 +14,8 @@ pub fn holds(table: &[u16], heads: &[u16], n: usize, slot: u16, mask: u16) -> bo
     ensures { T result ↔ Memᴰ (key_of slot mask) (keys_of table.now n) }
 {
     let at = bucket(slot, mask);
-    let mut link = wide(heads[at]);
+    let mut link = usize::from(heads[at]);
+    // The rows of a bucket are linked in the lent table: with no heap no list of them can be made to go over.
     while 0 < link {
         let r = link - 1;
         if is_at(table, r, slot, mask) {
@@ -26,7 +26,12 @@ pub fn holds(table: &[u16], heads: &[u16], n: usize, slot: u16, mask: u16) -> bo
     false
 }
 
-// Adds the row of a key that is not there yet: the new number of rows, or 1 more than the room where there is none for it.
+// There is no room for a row more.
+#[derive(Clone, Copy, PartialEq, Eq)]
+pub struct NoRoom;
+
+// The table and the buckets are lent, and both are written: a struct of two `&mut` would ask each function for clauses on what it lends.
+// Adds the row of a key that is not there yet: the new number of rows. An error where there is no room for it.
 pub fn add(
     table: &mut [u16],
     heads: &mut [u16],
@@ -35,13 +40,14 @@ pub fn add(
     round: u16,
     slot: u16,
     mask: u16,
-) -> usize
+) -> Result<usize, NoRoom>
     requires store { Store table.old heads.old n }
     requires n_le_room { (n ≤ room) × (room ≤ max_rows) × (row_size * room ≤ length table.old) × (slot < slots) }
-    ensures { Added table.old heads.old n room round slot mask result table.new heads.new }
+    ensures added { Added table.old heads.old n room round slot mask (reached room result) table.new heads.new }
+    ensures within { IfOk result (λ m. m ≤ room) }
 {
     if holds(table, heads, n, slot, mask) {
-        return n;
+        return Ok(n);
     }
     let count = n + 1;
     if count <= room {
@@ -49,7 +55,7 @@ pub fn add(
         let next = heads[at];
         put(table, n, round, slot, mask, next);
         heads[at] = count as u16;
-        return count;
+        return Ok(count);
     }
-    room + 1
+    Err(NoRoom)
 }

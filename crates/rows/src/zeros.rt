@@ -6,16 +6,12 @@ pub fn clear(words: &mut [u16], count: usize)
     requires { count ≤ length words.old }
     ensures { words.new ≡ replicate count 0 ++ drop count words.old }
 {
-    let mut i = 0;
-    while i < count {
-        words[i] = 0;
-        i += 1;
-    }
+    words[..count].fill(0);
 }
 
 // Every word becomes 0.
 pub fn zero(words: &mut [u16])
     ensures { words.new ≡ replicate (length words.old) 0 }
 {
-    clear(words, words.len());
+    words.fill(0);
 }

@@ -5,10 +5,13 @@ use native.Mathlib.Omega.{arith}
 use native.Mathlib.Decide.{ℕ_discrete, dec_lt}
 use mathlib.Core.Path.{◌≡◌, refl, sym, ap, ◌∙◌}
 use mathlib.Core.List.{List, [], ◌∷◌, ◌++◌, map, map-append, append_assoc, append-nil, Memᴰ}
-use lib.ListN.{length, get_or, set, take, drop, length-append, length-set, take-append-drop}
-use lib.Seq.{take-length, get_or-set_same, get_or-set_other}
+use borrow.Rule.Slice.PartMut.{put_mid}
+use lib.ListN.{length, get_or, take, drop, replicate, length-append, length-drop, length-replicate, get_or-replicate, take-append-drop}
+use lib.Seq.{take-length}
+use Rattle.std.proofs.lemmas.List.{length-take-le, get_or_append_left, get_or-append_right, get_or-take}
 use Rattle.terms.specs.Term.{Term, same_term}
 use Rattle.terms.specs.Cells.{enc}
+use Rattle.program.specs.Limits.{max_declared}
 use Rattle.program.specs.Program.{Nth, Clause, Program, bodies}
 use Rattle.program.specs.Within.{encode_atoms, encode_clauses}
 use Rattle.program.specs.Shapes.{place, with, shape_of, distinct, shapes, shape_number}
@@ -16,26 +19,27 @@ use Rattle.program.proofs.ShapeLaws.{place_nth, with_has}
 use Rattle.program.proofs.OwnShape.{with_old, with_new, place_old, place_new}
 use Rattle.program.proofs.ShapeOrder.{distinct_append, distinct_extends}
 use Rattle.program.proofs.Nths.{nth_below}
-use Rattle.directory.specs.Layout.{predicate_shape}
+use Rattle.directory.specs.Layout.{predicate_shape, dir_words}
 use Rattle.shaping.specs.Named.{Cleared, shapes_up_to}
 use Rattle.directory.proofs.Cuts.{nth_take}
 use Rattle.shaping.proofs.ShapeSearch.{place_missing, member_by_place}
 
--- no link is left
-pub none_cleared : (before : List ℕ) → Cleared before before 0
-none_cleared before = record { size = refl; none = λ x l. absurd (omega arith); kept = λ x l. refl }
-
-pub one_cleared : (before dir : List ℕ) (q : ℕ) → Cleared before dir q → predicate_shape + q < length dir → Cleared before (set dir (predicate_shape + q) 0) (q + 1)
-one_cleared before dir q w room =
+-- the links of the predicates are filled with 0
+pub filled_cleared : (dir links : List ℕ) → length dir ≡ dir_words → links ≡ replicate max_declared 0 → Cleared dir (put_mid predicate_shape max_declared dir links) max_declared
+filled_cleared dir links whole filled =
+    let front : length (take predicate_shape dir) ≡ predicate_shape = length-take-le predicate_shape dir (omega arith) in
+    let many : length links ≡ max_declared = ap length filled ∙ length-replicate {A = ℕ} max_declared 0 in
+    let behind = drop max_declared (drop predicate_shape dir) in
     record {
-      size = length-set dir (predicate_shape + q) 0 ∙ w.size;
-      none = λ x l. by x l (ℕ_discrete x q);
-      kept = λ x l. get_or-set_other dir (predicate_shape + q) x 0 0 (λ z. omega arith) ∙ w.kept x l;
+      size =
+          length-append (take predicate_shape dir) (links ++ behind)
+          ∙ omega (arith, front, many, length-append links behind, length-drop max_declared (drop predicate_shape dir), length-drop predicate_shape dir);
+      none = λ x l.
+          get_or-append_right (take predicate_shape dir) (links ++ behind) predicate_shape (predicate_shape + x) 0 front (omega arith)
+          ∙ ap (λ (n : ℕ). get_or (links ++ behind) n 0) (omega arith) ∙ get_or_append_left links behind 0 x (omega arith)
+          ∙ rw filled (get_or-replicate max_declared x 0 0 l);
+      kept = λ x l. get_or_append_left (take predicate_shape dir) (links ++ behind) 0 x (omega arith) ∙ get_or-take predicate_shape dir x 0 l;
     }
-  where
-    by : (x : ℕ) → x < q + 1 → Dec (x ≡ q) → get_or (set dir (predicate_shape + q) 0) (predicate_shape + x) 0 ≡ 0
-    by x l (yes same) = rw same (get_or-set_same dir (predicate_shape + q) 0 0 room)
-    by x l (no other) = get_or-set_other dir (predicate_shape + q) (predicate_shape + x) 0 0 (λ z. omega arith) ∙ w.none x (omega arith)
 
 -- the place of an element in the list with it
 pub place_with : (l : List Term) (t : Term) → place same_term t (with same_term l t) ≡ place same_term t l

@@ -21,7 +21,7 @@ use Rattle.directory.specs.Layout.{shape_start, shape_next, predicate_shape, sha
 use Rattle.directory.specs.Directory.{StandsAt}
 use Rattle.directory.specs.Numbers.{met_cells, Known, Numbered, renamed, number_in, IsInTable, Renumbered}
 use Rattle.shaping.specs.Shaped.{Shaped, Sought, FoundAs, added_to, Asked, Answered}
-use Rattle.shaping.specs.declared.shapes.Found.TheVariants.{At, New}
+use Rattle.std.specs.Prelude.{Ok, Err}
 use Rattle.directory.proofs.Cuts.{middle_part}
 use Rattle.directory.proofs.Parts.{part_length, part_at, part_is}
 use Rattle.directory.proofs.TermCells.{atom_met, atom_all_cells, atom_in_run}
@@ -158,7 +158,7 @@ module _ (words dir : List ℕ) (start cells count : ℕ) (a : Asked words dir s
       start_same x l = r.kept (shape_start + x) (omega arith)
 
       -- the shape is there
-      pub old_answer : (s : ℕ) → FoundAs a.ss (shape_of a.atom) (get_or words start 0) (At s)
+      pub old_answer : (s : ℕ) → FoundAs a.ss (shape_of a.atom) (get_or words start 0) (Ok s)
           → Answered a.predicates a.functions a.ss a.atom cells dir dir₁ s
       old_answer s f =
           let m = member_by_place same_term a.ss (shape_of a.atom) (rw f.1 f.0) in
@@ -172,7 +172,7 @@ module _ (words dir : List ℕ) (start cells count : ℕ) (a : Asked words dir s
             kept = before_same;
           }
 
-      module _ (slot : ℕ) (f : FoundAs a.ss (shape_of a.atom) (get_or words start 0) (New slot)) where
+      module _ (slot : ℕ) (f : FoundAs a.ss (shape_of a.atom) (get_or words start 0) (Err slot)) where
         abbrev end : ℕ
         end = get_or dir (shape_start + count) 0 + cells
 

@@ -6,6 +6,7 @@ use mathlib.Core.Path.{◌≡◌, refl, sym, ap, ap₂, ◌∙◌}
 use mathlib.Core.Logic.{inl, inr}
 use mathlib.Core.List.{List, [], ◌∷◌, ◌++◌, Memᴰ}
 use lib.ListN.{length, get_or, take, drop}
+use Rattle.std.specs.Prelude.{Ok, Err}
 use Rattle.terms.specs.Term.{Term, Terms, same_term, app}
 use Rattle.terms.specs.Cells.{enc, encs, Keepss, Atom, terms_of}
 use Rattle.terms.proofs.Runs.{terms_encs, join_nil}
@@ -17,8 +18,7 @@ use Rattle.program.proofs.Nths.{nth_below}
 use Rattle.directory.specs.Layout.{shape_start, shape_next, predicate_shape, shape_cells, max_shape_cells}
 use Rattle.directory.specs.Directory.{StandsAt, predicate_of, ShapeAt}
 use Rattle.shaping.specs.Shaped.{Sought, Slot, Seeking, FoundAs}
-use Rattle.shaping.specs.declared.shapes.Found.TheVariants.{At, New}
-use Rattle.directory.proofs.Parts.{part_length}
+use Rattle.directory.proofs.Cuts.{middle_part}
 
 -- a run determines its atom
 encs_injective : (F : List ℕ) (ts us : Terms) → Keepss F ts → Keepss F us → encs ts ≡ encs us → ts ≡ us
@@ -63,12 +63,19 @@ module _ (dir : List ℕ) (q cells to : ℕ) (a : Sought dir q cells to) where
       let h = a.is_q in
       omega arith
 
+  -- the cells of the shape that is sought
+  abbrev sought_cells : List ℕ
+  sought_cells = take (to + cells - to) (drop to dir)
+
+  sought_cells_are : sought_cells ≡ enc a.S
+  sought_cells_are = middle_part dir to cells ∙ a.stands.run
+
   pub seek_first : Seeking ss a.S q (predicate_shape + q) (get_or dir (predicate_shape + q) 0)
   seek_first = record { from = 0; slot_is = inl (refl, refl); link_is = a.shaped.first q predicate_declared; passed = λ r R h l. absurd (omega arith) }
 
   module _ (slot link : ℕ) (w : Seeking ss a.S q slot link) where
     -- where no link is left the shape is new
-    pub not_found : link ≡ 0 → FoundAs ss a.S q (New slot)
+    pub not_found : link ≡ 0 → FoundAs ss a.S q (Err slot)
     not_found e = ((λ m. missing (member_nth m).0 (member_nth m).1 (dec_lt (member_nth m).0 w.from)), record { from = w.from; slot_is = w.slot_is; link_is = rw e at w.link_is; passed = w.passed })
       where
         missing : (n : ℕ) → Nth ss n a.S → Dec (n < w.from) → ⊥
@@ -116,14 +123,25 @@ module _ (dir : List ℕ) (q cells to : ℕ) (a : Sought dir q cells to) where
               let m = w.link_is.none_before r R h pr (omega arith) in
               omega arith
 
-      pub found : get_or dir (shape_start + link) 0 - get_or dir (shape_start + s) 0 ≡ cells
-          → take cells (drop (shape_cells + get_or dir (shape_start + s) 0) dir) ≡ take cells (drop to dir)
-          → FoundAs ss a.S q (At s)
-      found e p =
-          let t : enc other ≡ enc a.S = sym other_stands.run ∙ rw e (p ∙ a.stands.run) in
-          let o : other ≡ a.S = atom_injective a.predicates a.functions other a.S (a.shaped.atom other_at) a.sound t in
-          let at-s : Nth ss s a.S = rw o at other_at in
-          (nth_below other_at, place_first same_term ss a.S s at-s none_before)
+      module _ (from upto : ℕ) (from_is : from ≡ get_or dir (shape_start + s) 0) (upto_is : upto ≡ get_or dir (shape_start + link) 0) where
+        -- its cells
+        abbrev other_cells : List ℕ
+        other_cells = take (shape_cells + upto - (shape_cells + from)) (drop (shape_cells + from) dir)
+
+        other_cells_are : other_cells ≡ enc other
+        other_cells_are =
+            let e : shape_cells + upto - (shape_cells + from) ≡ get_or dir (shape_start + link) 0 - get_or dir (shape_start + s) 0 = omega arith in
+            rw (e, from_is) other_stands.run
+
+        pub unlike : (other_cells ≡ sought_cells → ⊥) → other ≡ a.S → ⊥
+        unlike ne e = ne (other_cells_are ∙ ap enc e ∙ sym sought_cells_are)
+
+        pub found : other_cells ≡ sought_cells → FoundAs ss a.S q (Ok s)
+        found p =
+            let t : enc other ≡ enc a.S = sym other_cells_are ∙ p ∙ sought_cells_are in
+            let o : other ≡ a.S = atom_injective a.predicates a.functions other a.S (a.shaped.atom other_at) a.sound t in
+            let at-s : Nth ss s a.S = rw o at other_at in
+            (nth_below other_at, place_first same_term ss a.S s at-s none_before)
 
       -- another one is passed
       pub pass : (other ≡ a.S → ⊥) → Seeking ss a.S q (shape_next + s) (get_or dir (shape_next + s) 0)
@@ -141,20 +159,6 @@ module _ (dir : List ℕ) (q cells to : ℕ) (a : Sought dir q cells to) where
               ne (nth_same other_at at-s ∙ e)
           by r R h l e (no d) = none_before r R h (omega arith) e
 
-      length_other : length (enc other) ≡ get_or dir (shape_start + link) 0 - get_or dir (shape_start + s) 0
-      length_other = sym (ap length other_stands.run) ∙ part_length dir _ _ other_stands.fits
-
-      length_sought : length (enc a.S) ≡ cells
-      length_sought = sym (ap length a.stands.run) ∙ part_length dir to cells a.stands.fits
-
-      pub longer : (get_or dir (shape_start + link) 0 - get_or dir (shape_start + s) 0 ≡ cells → ⊥) → other ≡ a.S → ⊥
-      longer ne e = ne (sym length_other ∙ ap (λ (t : Term). length (enc t)) e ∙ length_sought)
-
-      pub unlike : get_or dir (shape_start + link) 0 - get_or dir (shape_start + s) 0 ≡ cells
-          → (take cells (drop (shape_cells + get_or dir (shape_start + s) 0) dir) ≡ take cells (drop to dir) → ⊥) → other ≡ a.S → ⊥
-      unlike size ne e =
-          ne (ap (λ (n : ℕ). take n (drop (shape_cells + get_or dir (shape_start + s) 0) dir)) (sym size) ∙ other_stands.run ∙ ap enc e ∙ sym a.stands.run)
-
       -- the links go forward
       pub slot_grows : slot < shape_next + s
       slot_grows = by w.slot_is
@@ -162,6 +166,13 @@ module _ (dir : List ℕ) (q cells to : ℕ) (a : Sought dir q cells to) where
           by : Slot ss q slot w.from → slot < shape_next + s
           by (inl (e, z)) = let d = predicate_declared in omega arith
           by (inr (t, T, e, f, h, r)) = let l = (w.link_is.named some).0 in omega arith
+
+    pub link_few : link ≤ max_shapes
+    link_few = by (dec_lt 0 link)
+      where
+        by : Dec (0 < link) → link ≤ max_shapes
+        by (yes some) = link_most some
+        by (no none) = omega arith
 
 -- the place of an element in a list that lacks it is the length, and otherwise before it
 pub place_missing : {A : Type 0} (same : Discrete A) (l : List A) (a : A) → (Memᴰ a l → ⊥) → place same a l ≡ length l

@@ -1,5 +1,5 @@
 -- The shapes found so far, and the search for one more. For the code alone: readers go by `Directory`.
-use Rattle.std.specs.Prelude.{ℕ, suc, ◌+◌, ◌≤◌, ◌<◌, ◌≡◌, ◌⊎◌, length, get_or, set}
+use Rattle.std.specs.Prelude.{ℕ, suc, ◌+◌, ◌≤◌, ◌<◌, ◌≡◌, ◌⊎◌, length, get_or, set, Result, Ok, Err}
 use mathlib.Core.List.{List, Memᴰ}
 use Rattle.terms.specs.Term.{Term, same_term}
 use Rattle.terms.specs.Cells.{Atom}
@@ -8,8 +8,6 @@ use Rattle.program.specs.Program.{Nth}
 use Rattle.program.specs.Shapes.{place, with, shape_of}
 use Rattle.directory.specs.Layout.{shape_start, shape_vars, shape_next, predicate_shape, dir_words, max_shape_cells}
 use Rattle.directory.specs.Directory.{StandsAt, predicate_of, Link, ShapeAt}
-use Rattle.shaping.specs.declared.shapes.Found.{Found}
-use Rattle.shaping.specs.declared.shapes.Found.TheVariants.{At, New}
 
 -- the directory has these shapes
 pub record Shaped (predicates functions : List ℕ) (ss : List Term) (dir : List ℕ) : Type 0 where
@@ -47,9 +45,9 @@ pub record Seeking (ss : List Term) (S : Term) (q slot link : ℕ) : Type 0 wher
   pub passed : (r : ℕ) (R : Term) → Nth ss r R → r < from → R ≡ S → ⊥
 
 -- what is found: the number of the shape; or, where it is new, the entry for the link to it
-abbrev pub FoundAs : List Term → Term → ℕ → Found → Type 0
-FoundAs ss S q (At s) = (s < length ss) × (place same_term S ss ≡ s)
-FoundAs ss S q (New slot) = (Memᴰ S ss → ⊥) × Seeking ss S q slot 0
+abbrev pub FoundAs : List Term → Term → ℕ → Result ℕ ℕ → Type 0
+FoundAs ss S q (Ok s) = (s < length ss) × (place same_term S ss ≡ s)
+FoundAs ss S q (Err slot) = (Memᴰ S ss → ⊥) × Seeking ss S q slot 0
 
 -- the entries of one more shape: the link to it, where its cells end, its variables, no next one
 abbrev pub added_to : List ℕ → ℕ → ℕ → ℕ → ℕ → List ℕ

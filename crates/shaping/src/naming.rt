@@ -8,23 +8,20 @@ ghost use Rattle.directory.specs.Walked.{Placed};
 ghost use Rattle.shaping.specs.Named.{Cleared, ShapesFound, ShapesNamed};
 
 use crate::shapes::number;
+use directory::encoded::Span;
 use directory::layout::{
     BODY_CELLS, BODY_COUNT, BODY_SHAPE, BODY_START, GOAL_CELLS, GOAL_START, PREDICATE_SHAPE,
     SHAPE_COUNT, SHAPE_START,
 };
 use program::limits::MAX_DECLARED;
-use terms::walk::{narrow, wide};
+use terms::walk::narrow;
 
 // No predicate has a shape yet.
 fn clear(dir: &mut [u16])
     requires { length dir.old ≡ dir_words }
     ensures { Cleared dir.old dir.new max_declared }
 {
-    let mut q = 0;
-    while q < MAX_DECLARED {
-        dir[PREDICATE_SHAPE + q] = 0;
-        q += 1;
-    }
+    dir[PREDICATE_SHAPE..PREDICATE_SHAPE + MAX_DECLARED].fill(0);
 }
 
 // "Shape 0 is the goal's"
@@ -34,9 +31,11 @@ fn goal_shape(words: &[u16], dir: &mut [u16])
 {
     clear(dir);
     dir[SHAPE_START] = 0;
-    let start = wide(dir[GOAL_START]);
-    let cells = wide(dir[GOAL_CELLS]);
-    number(words, start, cells, dir, 0);
+    let goal = Span {
+        start: usize::from(dir[GOAL_START]),
+        cells: usize::from(dir[GOAL_CELLS]),
+    };
+    number(words, goal, dir, 0);
 }
 
 // All shapes, and the numbers of the body atoms' shapes.
@@ -45,18 +44,18 @@ pub fn shapes(words: &[u16], dir: &mut [u16])
     ensures { ShapesNamed (said words.now) dir.old dir.new }
 {
     goal_shape(words, dir);
-    let total = wide(dir[BODY_COUNT]);
+    let total = usize::from(dir[BODY_COUNT]);
     let mut count = 1;
-    let mut j = 0;
-    while j < total {
-        let start = wide(dir[BODY_START + j]);
-        let cells = wide(dir[BODY_CELLS + j]);
-        let s = number(words, start, cells, dir, count);
+    for j in 0..total {
+        let atom = Span {
+            start: usize::from(dir[BODY_START + j]),
+            cells: usize::from(dir[BODY_CELLS + j]),
+        };
+        let s = number(words, atom, dir, count);
         dir[BODY_SHAPE + j] = narrow(s);
         if s == count {
             count += 1;
         }
-        j += 1;
     }
     dir[SHAPE_COUNT] = narrow(count);
 }

@@ -58,6 +58,12 @@ module _ {seen order : List ℕ} {s n : ℕ} (h : Ordered seen order s n) where
   pub ordered_few : n ≤ variables
   ordered_few = rw h.count_is (few_variables seen h.once h.small)
 
+  pub ordered_below : (k : ℕ) → k < n → get_or order k 0 < variables
+  ordered_below k l =
+      let (x, q) = below_nth seen k (rw h.count_is at l) in
+      let e : get_or order k 0 ≡ x = sym (get_or-take n order k 0 l) ∙ ap (λ (o : List ℕ). get_or o k 0) h.first ∙ nth_get_d 0 q in
+      rw e (h.small x (nth_member q))
+
   module _ (c : ℕ) where
     -- a function's cell has no variable
     pub function_ordered : c < first_variable → Ordered (met_cell seen c) order s n

@@ -16,9 +16,9 @@ use Rattle.program.specs.Limits.{max_shapes}
 use Rattle.program.specs.Lists.{between}
 use Rattle.program.proofs.ProgramWords.{sound_within}
 use Rattle.program.proofs.Nths.{nth_below}
-use Rattle.directory.specs.Layout.{functions_start, predicates_start, shape_start, shape_cells}
+use Rattle.directory.specs.Layout.{shape_start, shape_cells}
 use Rattle.directory.specs.Directory.{ShapeAt, predicate_of}
-use Rattle.steps.specs.Parts.{shape_run, ShapeIn, functions_run}
+use Rattle.steps.specs.Parts.{shape_run, ShapeIn, PairOf}
 use Rattle.steps.specs.Situation.{Setting, Meeting, Unifying, Met, MetStore, MetBindings}
 use Rattle.steps.proofs.ShapeAtoms.{shape_is_atom}
 
@@ -70,55 +70,50 @@ module _ {words dir : List ℕ} {shape start cells : ℕ} (m : Meeting words dir
   shape_atom : Atom m.p.predicates m.p.functions m.S
   shape_atom = shape_is_atom m.p (setting_within m.setting) m.nth_shape
 
-  -- the shape's cells and the functions' arities, as they are read
-  module _ (run arities : List ℕ) (run_is : run ≡ shape_run dir shape) (arities-is : arities ≡ functions_run words dir) where
-    abbrev atom : List ℕ
-    atom = between words start (start + cells)
+  -- the cells of the two and the arities, as they are read
+  module _ {first second predicates functions : List ℕ} (pair : PairOf words dir shape start cells first second predicates functions) where
+    first_run : first ≡ enc m.S
+    first_run = pair.first_is ∙ shape_run_law
 
-    first_run : run ≡ enc m.S
-    first_run = run_is ∙ shape_run_law
+    second_run : second ≡ enc m.A
+    second_run = pair.second_is ∙ atom_run
 
-    arities_are : arities ≡ m.p.functions
-    arities_are = arities-is ∙ m.setting.directory.functions_are
+    functions_are : functions ≡ m.p.functions
+    functions_are = pair.functions_are ∙ m.setting.directory.functions_are
+
+    predicates_are : predicates ≡ m.p.predicates
+    predicates_are = pair.predicates_are ∙ m.setting.directory.predicates_are
 
     -- what is said of the shape and the atom is said of their cells
-    pub meeting_bindings : (places : List ℕ) → MetBindings m.p.functions m.S m.A places → Bindings arities run atom m.S m.A places
-    meeting_bindings places u = rw (arities_are, first_run, atom_run) u
+    pub meeting_bindings : (places : List ℕ) → MetBindings m.p.functions m.S m.A places → Bindings functions first second m.S m.A places
+    meeting_bindings places u = rw (functions_are, first_run, second_run) u
 
-    pub meeting_stored : (places : List ℕ) → MetBindings m.p.functions m.S m.A places → StoreOf arities run atom places
+    pub meeting_stored : (places : List ℕ) → MetBindings m.p.functions m.S m.A places → StoreOf functions first second places
     meeting_stored places u =
         record {
           A = m.S;
           B = m.A;
           bindings = meeting_bindings places u;
           first_short = rw first_run shape_atom.short;
-          second_short = rw atom_run m.atom.short;
+          second_short = rw second_run m.atom.short;
         }
 
-    -- the predicates' arities, too
-    module _ (functions : ℕ) (functions-is : functions ≡ get_or dir functions_start 0) where
-      abbrev predicates : List ℕ
-      predicates = between words predicates_start functions
+    first_atom : Atom predicates functions m.S
+    first_atom = rw (predicates_are, functions_are) shape_atom
 
-      predicates_are : predicates ≡ m.p.predicates
-      predicates_are = rw functions-is m.setting.directory.predicates_are
+    second_atom_law : Atom predicates functions m.A
+    second_atom_law = rw (predicates_are, functions_are) m.atom
 
-      first_atom : Atom predicates arities m.S
-      first_atom = rw (predicates_are, arities_are) shape_atom
+    pub meeting_atoms : BothAtoms predicates functions first second
+    meeting_atoms =
+        record { first = m.S; first_run = first_run; first_atom = first_atom; second = m.A; second_run = second_run; second_atom_law = second_atom_law }
 
-      second_atom_law : Atom predicates arities m.A
-      second_atom_law = rw (predicates_are, arities_are) m.atom
-
-      pub meeting_atoms : BothAtoms predicates arities run atom
-      meeting_atoms =
-          record { first = m.S; first_run = first_run; first_atom = first_atom; second = m.A; second_run = atom_run; second_atom_law = second_atom_law }
-
-      -- what unification says of their cells it says of the shape and the atom
-      pub meeting_store : (r : Bool) (places sets : List ℕ) → Unification predicates arities run atom r places sets
-          → MetStore m.p.functions m.S m.A r places sets
-      meeting_store r places sets u = by r (u m.S m.A first_run atom_run first_atom second_atom_law)
-        where
-          by : (r : Bool) → pick r (Unified arities run atom m.S m.A places sets) (Apart m.S m.A)
-              → MetStore m.p.functions m.S m.A r places sets
-          by true h = rw (arities_are, first_run, atom_run) at h
-          by false h = h
+    -- what unification says of their cells it says of the shape and the atom
+    pub meeting_store : (r : Bool) (places sets : List ℕ) → Unification predicates functions first second r places sets
+        → MetStore m.p.functions m.S m.A r places sets
+    meeting_store r places sets u = by r (u m.S m.A first_run second_run first_atom second_atom_law)
+      where
+        by : (r : Bool) → pick r (Unified functions first second m.S m.A places sets) (Apart m.S m.A)
+            → MetStore m.p.functions m.S m.A r places sets
+        by true h = rw (functions_are, first_run, second_run) at h
+        by false h = h

@@ -1,102 +1,93 @@
-// A shape and an atom of the words: whether they unify, and the sets of their unifier.
+// A shape and an atom of the words: whether they unify, and the sets of their unifier. The sets are lent beside the answer: an Option of them would copy
+// them for each pair that unifies.
 ghost use Rattle.std.specs.Prelude.{◌≡◌, ◌+◌, ◌-◌, ◌≤◌, ◌<◌, length, get_or};
 ghost use Rattle.terms.specs.Mask.{Marks};
 ghost use Rattle.terms.specs.Term.{Term};
 ghost use Rattle.marks.specs.Modes.{InOrder};
-ghost use Rattle.directory.specs.Layout.{functions_start};
 ghost use Rattle.program.specs.Shapes.{number};
-ghost use Rattle.steps.specs.Parts.{shape_run, ShapeIn, functions_run, FunctionsIn};
+ghost use Rattle.steps.specs.Parts.{shape_run, ShapeIn, PairOf};
 ghost use Rattle.steps.specs.Situation.{Meeting, Unifying, Met, MetStore, MetBindings, AnAtom, AtomRun};
 
+use directory::encoded::{Encoded, Span};
 use directory::layout::{
     CLAUSES_START, FUNCTIONS_START, PREDICATES_START, SHAPE_CELLS, SHAPE_START,
 };
-use terms::sets::sets_of;
-use terms::unifier::{NO_PLACE, unify};
-use terms::walk::{FIRST_VARIABLE, wide};
+use marks::rows::Order;
+use terms::unifier::{Atoms, NO_PLACE};
+use terms::walk::{FIRST_VARIABLE, has, only};
 
 // The cells of a shape, in the directory.
 fn shape_run<'a>(dir: &'a [u16], shape: usize) -> &'a [u16]
     requires { ShapeIn dir.now shape }
     ensures { result.now ≡ shape_run dir.now shape }
 {
-    let from = SHAPE_CELLS + wide(dir[SHAPE_START + shape]);
-    let to = SHAPE_CELLS + wide(dir[SHAPE_START + shape + 1]);
+    let from = SHAPE_CELLS + usize::from(dir[SHAPE_START + shape]);
+    let to = SHAPE_CELLS + usize::from(dir[SHAPE_START + shape + 1]);
     &dir[from..to]
 }
 
-// The arities of the functions, in the words: where they begin is read already.
-fn functions_run<'a>(words: &'a [u16], dir: &[u16], functions: usize) -> &'a [u16]
-    requires { FunctionsIn words.now dir.now × (functions ≡ get_or dir.now functions_start 0) }
-    ensures { result.now ≡ functions_run words.now dir.now }
-{
-    let clauses = wide(dir[CLAUSES_START]);
-    &words[functions..clauses]
+// A shape and an atom to be unified, and the arities of the program's predicates.
+#[derive(Clone, Copy)]
+struct Pair<'a> {
+    atoms: Atoms<'a, 'a>,
+    predicates: &'a [u16],
 }
 
-// The shape is the first atom, the atom at so many words from the start on the second: the whole store.
+// The shape is the first atom, the atom at so many words from the start on the second.
+fn pair_of<'a>(program: &Encoded<'a>, shape: usize, atom: Span) -> Pair<'a>
+    requires { Meeting program.now.words.now program.now.dir.now shape atom.start atom.cells }
+    ensures { PairOf program.now.words.now program.now.dir.now shape atom.start atom.cells result.atoms.a.now result.atoms.b.now result.predicates.now result.atoms.functions.now }
+{
+    let functions = usize::from(program.dir[FUNCTIONS_START]);
+    let clauses = usize::from(program.dir[CLAUSES_START]);
+    Pair {
+        atoms: Atoms {
+            a: shape_run(program.dir, shape),
+            b: &program.words[atom.start..atom.start + atom.cells],
+            functions: &program.words[functions..clauses],
+        },
+        predicates: &program.words[PREDICATES_START..functions],
+    }
+}
+
+// The whole store that is left of a shape and an atom.
 pub fn meet_store<'a>(
-    words: &'a [u16],
-    dir: &'a [u16],
+    program: &Encoded<'a>,
     shape: usize,
-    start: usize,
-    cells: usize,
+    atom: Span,
     places: &mut [u8; 32],
     sets: &mut [u32; 32],
 ) -> bool
-    requires { Meeting words.now dir.now shape start cells }
-    ensures { (m : Meeting words.now dir.now shape start cells)
+    requires { Meeting program.now.words.now program.now.dir.now shape atom.start atom.cells }
+    ensures { (m : Meeting program.now.words.now program.now.dir.now shape atom.start atom.cells)
         → MetStore m.p.functions m.S m.A result places.new sets.new }
 {
-    let run = shape_run(dir, shape);
-    let functions = wide(dir[FUNCTIONS_START]);
-    let arities = functions_run(words, dir, functions);
-    let end = start + cells;
-    unify(
-        run,
-        &words[start..end],
-        &words[PREDICATES_START..functions],
-        arities,
-        places,
-        sets,
-    )
+    let both = pair_of(program, shape, atom);
+    both.atoms.unify(both.predicates, places, sets)
 }
 
 // The sets alone.
-pub fn meet<'a>(
-    words: &'a [u16],
-    dir: &'a [u16],
-    shape: usize,
-    start: usize,
-    cells: usize,
-    sets: &mut [u32; 32],
-) -> bool
-    requires { Meeting words.now dir.now shape start cells }
-    ensures { (m : Meeting words.now dir.now shape start cells) → Met m.S m.A result sets.new }
+pub fn meet<'a>(program: &Encoded<'a>, shape: usize, atom: Span, sets: &mut [u32; 32]) -> bool
+    requires { Meeting program.now.words.now program.now.dir.now shape atom.start atom.cells }
+    ensures { (m : Meeting program.now.words.now program.now.dir.now shape atom.start atom.cells) → Met m.S m.A result sets.new }
 {
     let mut places = [NO_PLACE; 32];
-    meet_store(words, dir, shape, start, cells, &mut places, sets)
+    meet_store(program, shape, atom, &mut places, sets)
 }
 
 // They have met before: the sets are made from the bindings.
 pub fn meet_stored<'a>(
-    words: &'a [u16],
-    dir: &'a [u16],
+    program: &Encoded<'a>,
     shape: usize,
-    start: usize,
-    cells: usize,
+    atom: Span,
     places: &[u8; 32],
     sets: &mut [u32; 32],
 )
-    requires { Meeting words.now dir.now shape start cells
-        × ((m : Meeting words.now dir.now shape start cells) → MetBindings m.p.functions m.S m.A places.now) }
-    ensures { (m : Meeting words.now dir.now shape start cells) → Unifying m.S m.A sets.new }
+    requires { Meeting program.now.words.now program.now.dir.now shape atom.start atom.cells
+        × ((m : Meeting program.now.words.now program.now.dir.now shape atom.start atom.cells) → MetBindings m.p.functions m.S m.A places.now) }
+    ensures { (m : Meeting program.now.words.now program.now.dir.now shape atom.start atom.cells) → Unifying m.S m.A sets.new }
 {
-    let run = shape_run(dir, shape);
-    let functions = wide(dir[FUNCTIONS_START]);
-    let arities = functions_run(words, dir, functions);
-    let end = start + cells;
-    sets_of(run, &words[start..end], arities, places, sets);
+    pair_of(program, shape, atom).atoms.sets_of(places, sets);
 }
 
 // The marks of the first so many variables.
@@ -107,25 +98,23 @@ pub fn first_variables(count: usize) -> u16
     ((1u32 << count) - 1) as u16
 }
 
-// The variables of an atom by first appearance, and how many there are.
-pub fn order_of(atom: &[u16], order: &mut [u8; 16]) -> usize
-    requires { AnAtom atom.now × (length order.old ≡ 16) }
-    ensures { (result ≤ 16) × ((A : Term) → AtomRun atom.now A → InOrder A (number A) order.new result) }
+// The variables of an atom by first appearance.
+pub fn order_of(atom: &[u16]) -> Order
+    requires { AnAtom atom.now }
+    ensures { (result.count ≤ 16) × ((A : Term) → AtomRun atom.now A → InOrder A (number A) result.variables result.count) }
 {
     let mut met = 0u32;
+    let mut variables = [0u8; 16];
     let mut count = 0;
-    let mut i = 0;
-    while i < atom.len() {
-        let cell = atom[i];
-        if FIRST_VARIABLE <= cell {
-            let v = wide(cell - FIRST_VARIABLE);
-            if !terms::walk::has(met, v) {
-                met = met | terms::walk::only(v);
-                order[count] = v as u8;
+    for cell in atom {
+        if FIRST_VARIABLE <= *cell {
+            let v = usize::from(*cell - FIRST_VARIABLE);
+            if !has(met, v) {
+                met |= only(v);
+                variables[count] = v as u8;
                 count += 1;
             }
         }
-        i += 1;
     }
-    count
+    Order { variables, count }
 }

@@ -1,11 +1,12 @@
 // Unifiers that are noted: what comes of shapes that meet one atom is noted, and taken from the notes where they meet it again in the same order.
-ghost use Rattle.std.specs.Prelude.{List, ℕ, ◌+◌, ◌<◌};
+ghost use Rattle.std.specs.Prelude.{List, ℕ, ◌+◌, ◌<◌, IfSome};
 ghost use Rattle.terms.specs.Bytes.{word_at, WordPut};
 ghost use Rattle.program.specs.Limits.{max_shapes};
 ghost use Rattle.steps.specs.Situation.{Meeting, Met};
 ghost use Rattle.steps.specs.Unifiers.{taken_at, Room, Fitting, Notes, ApartNoted, UnifiedNoted, NextWord, NextWithin, NextTaken};
 
 use crate::meet::{meet, meet_store, meet_stored};
+use directory::encoded::{Encoded, Span};
 use terms::bytes::{put_word, word_at};
 use terms::noted::{bound_set, noted_size, put_bindings, take_bindings};
 use terms::unifier::NO_PLACE;
@@ -13,6 +14,7 @@ use terms::unifier::NO_PLACE;
 // The bytes in which a clause without a body notes what comes of its head and the shapes of calls to it: as many as those of any program can take.
 pub const UNIFIER_BYTES: usize = 10400;
 
+// The counts stand in the lent bytes themselves, as the notes outlive each call and there is no heap to keep a list in.
 // The words that say how many bytes of the notes are taken, and how many the notes have; the notes stand behind them.
 const TAKEN: usize = 0;
 
@@ -22,9 +24,6 @@ const FIRST_NOTE: usize = 4;
 
 // What a note begins with: a word. Behind it stand the bindings, where the shape unifies.
 const WORD: usize = 2;
-
-// Greater than every word: there is no next note.
-const NO_WORD: usize = 65536;
 
 // Nothing is noted any more.
 pub fn forget_notes(unifiers: &mut [u8])
@@ -66,17 +65,17 @@ fn note_unified(unifiers: &mut [u8], shape: usize, places: &[u8; 32])
     put_word(unifiers, NOTED, noted + size);
 }
 
-// The first word of the next note that is not taken yet.
-fn next_word(unifiers: &[u8]) -> usize
+// The first word of the next note that is not taken yet, where there is one.
+fn next_word(unifiers: &[u8]) -> Option<usize>
     requires { Fitting unifiers.now }
-    ensures { result < 65536 → NextWord unifiers.now result }
+    ensures { IfSome result (λ word. NextWord unifiers.now word) }
 {
     let taken = word_at(unifiers, TAKEN);
     let noted = word_at(unifiers, NOTED);
     if noted < taken + WORD {
-        return NO_WORD;
+        return None;
     }
-    word_at(unifiers, FIRST_NOTE + taken)
+    Some(word_at(unifiers, FIRST_NOTE + taken))
 }
 
 // Takes the next note, of a shape that is apart.
@@ -100,20 +99,18 @@ fn take_unified(unifiers: &mut [u8], places: &mut [u8; 32])
 
 // A shape meets the atom for the first time: what comes of it is noted behind the notes so far, where there is room.
 pub fn meet_noting<'a>(
-    words: &'a [u16],
-    dir: &'a [u16],
+    program: &Encoded<'a>,
     shape: usize,
-    start: usize,
-    cells: usize,
+    atom: Span,
     sets: &mut [u32; 32],
     unifiers: &mut [u8],
 ) -> bool
-    requires { Meeting words.now dir.now shape start cells × Notes words.now dir.now start cells unifiers.old }
-    ensures { ((m : Meeting words.now dir.now shape start cells) → Met m.S m.A result sets.new)
-        × Notes words.now dir.now start cells unifiers.new }
+    requires { Meeting program.now.words.now program.now.dir.now shape atom.start atom.cells × Notes program.now.words.now program.now.dir.now atom.start atom.cells unifiers.old }
+    ensures { ((m : Meeting program.now.words.now program.now.dir.now shape atom.start atom.cells) → Met m.S m.A result sets.new)
+        × Notes program.now.words.now program.now.dir.now atom.start atom.cells unifiers.new }
 {
     let mut places = [NO_PLACE; 32];
-    if meet_store(words, dir, shape, start, cells, &mut places, sets) {
+    if meet_store(program, shape, atom, &mut places, sets) {
         note_unified(unifiers, shape, &places);
         return true;
     }
@@ -123,28 +120,27 @@ pub fn meet_noting<'a>(
 
 // A shape meets the atom again: what is noted of them is taken where it is the next note; else they are unified anew.
 pub fn meet_noted<'a>(
-    words: &'a [u16],
-    dir: &'a [u16],
+    program: &Encoded<'a>,
     shape: usize,
-    start: usize,
-    cells: usize,
+    atom: Span,
     sets: &mut [u32; 32],
     unifiers: &mut [u8],
 ) -> bool
-    requires { Meeting words.now dir.now shape start cells × Notes words.now dir.now start cells unifiers.old }
-    ensures { ((m : Meeting words.now dir.now shape start cells) → Met m.S m.A result sets.new)
-        × Notes words.now dir.now start cells unifiers.new }
+    requires { Meeting program.now.words.now program.now.dir.now shape atom.start atom.cells × Notes program.now.words.now program.now.dir.now atom.start atom.cells unifiers.old }
+    ensures { ((m : Meeting program.now.words.now program.now.dir.now shape atom.start atom.cells) → Met m.S m.A result sets.new)
+        × Notes program.now.words.now program.now.dir.now atom.start atom.cells unifiers.new }
 {
-    let word = next_word(unifiers);
-    if word == 2 * shape {
-        take_apart(unifiers);
-        return false;
+    if let Some(word) = next_word(unifiers) {
+        if word == 2 * shape {
+            take_apart(unifiers);
+            return false;
+        }
+        if word == 2 * shape + 1 {
+            let mut places = [NO_PLACE; 32];
+            take_unified(unifiers, &mut places);
+            meet_stored(program, shape, atom, &places, sets);
+            return true;
+        }
     }
-    if word == 2 * shape + 1 {
-        let mut places = [NO_PLACE; 32];
-        take_unified(unifiers, &mut places);
-        meet_stored(words, dir, shape, start, cells, &places, sets);
-        return true;
-    }
-    meet(words, dir, shape, start, cells, sets)
+    meet(program, shape, atom, sets)
 }

@@ -92,12 +92,6 @@ module _ (P F a b : List ℕ) (A B : Term) (ea : a ≡ enc A) (eb : b ≡ enc B)
   pub second_predicate : get_or b 0 0 ≡ kB.predicate
   second_predicate = ap (λ (l : List ℕ). get_or l 0 0) (eb ∙ ap enc kB.is)
 
-  pub first_some : 0 < length a
-  first_some = rw (ea, kA.is) (omega arith)
-
-  pub second_some : 0 < length b
-  second_some = rw (eb, kB.is) (omega arith)
-
   short_first : length a ≤ atom_cells
   short_first = rw ea kA.short
 
@@ -106,14 +100,6 @@ module _ (P F a b : List ℕ) (A B : Term) (ea : a ≡ enc A) (eb : b ≡ enc B)
 
   store : RightStore F a b no_places alone var
   store = store_at_first F a b short_first short_second
-
-  -- atoms of different predicates are apart
-  pub predicates_apart : (get_or a 0 0 ≡ get_or b 0 0 → ⊥) → Apart A B
-  predicates_apart n α β e =
-      let q : app kA.predicate (subs kA.arguments α) ≡ app kB.predicate (subs kB.arguments β) =
-      ap (λ (t : Term). sub t α) (sym kA.is) ∙ e ∙ ap (λ (t : Term). sub t β) kB.is in
-      let p : kA.predicate ≡ kB.predicate = cc in
-      n (first_predicate ∙ p ∙ sym second_predicate)
 
   module _ (same : get_or a 0 0 ≡ get_or b 0 0) where
     predicates_same : kA.predicate ≡ kB.predicate

@@ -13,7 +13,7 @@ use lib.Bits.{bit_or}
 use lib.Count.{ones, ones_step, ones-le}
 use Rattle.terms.specs.Mask.{mark_of, Has, Marks}
 use Rattle.terms.specs.Store.{all_variables, no_place}
-use Rattle.terms.proofs.Masks.{has_none, has_or, has_one, halved, mark_any_or_ground}
+use Rattle.terms.proofs.Masks.{has_or, has_one, halved, mark_any_or_ground}
 use Rattle.terms.specs.Noted.{IsBound, count_of, Coded, PlacesPut}
 use Rattle.terms.proofs.BytesPut.{put_then, byte_put}
 
@@ -57,9 +57,6 @@ count_ones (suc k) s small =
     omega (arith, count_first s k, ones_step s, count_ones k (s / 2) (let p = pow-succ' 2 k in omega arith))
 
 -- the set of the bound variables, of those before x
-pub bound_none : (places : List ℕ) → Marks (λ v. (v < 0) × (get_or places v 0 < no_place)) 0
-bound_none places v = (λ h. absurd (has_none v h), λ h. absurd (let l = h.0 in omega arith))
-
 module _ (places : List ℕ) (s x : ℕ) (m : Marks (λ v. (v < x) × (get_or places v 0 < no_place)) s) where
   pub bound_more : get_or places x 0 < no_place → Marks (λ v. (v < x + 1) × (get_or places v 0 < no_place)) (bit_or s (2 ^ x))
   bound_more b v = (

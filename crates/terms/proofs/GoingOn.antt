@@ -10,7 +10,7 @@ use Rattle.terms.specs.Term.{Term, Terms, var, app, nil, cons, Subst, sub, subs}
 use Rattle.terms.specs.Cells.{enc, encs, atom_cells, take_terms, Run}
 use Rattle.terms.specs.Walk.{cells_of}
 use Rattle.terms.specs.Store.{cells_at, terms_at, first_term, bound}
-use Rattle.terms.specs.Unifying.{base_of, RightStore, Outcome, Followed, Bindable, Comparable, Compared, free}
+use Rattle.terms.specs.Unifying.{base_of, RightStore, Outcome, Followed, Bindable, Comparable, Compared, free, look_at}
 use Rattle.terms.specs.declared.unifier.Look.TheVariants.{Unbound, Bound, Function}
 use Rattle.terms.proofs.Runs.{run_terms}
 use Rattle.terms.proofs.Steps.{run_within}
@@ -18,7 +18,8 @@ use Rattle.terms.proofs.Standings.{Next, next_term, terms_at_run}
 use Rattle.terms.proofs.Bound.{renumbered_cells_all, short_at}
 use Rattle.terms.proofs.Joining.{bound_same, outcome_for, outcome_same, outcome_then, outcome_parted}
 use Rattle.terms.proofs.Weight.{weight, lighter_bound, lighter_bound_second, lighter_arguments, lighter_first, lighter_others, lighter_fewer}
-use Rattle.terms.proofs.Comparing.{Means, place_past}
+use Rattle.terms.specs.declared.unifier.Look.{Look}
+use Rattle.terms.proofs.Comparing.{Means, looked_as, place_past}
 
 -- what a comparison weighs
 abbrev pub load : List ℕ → List ℕ → List ℕ → List ℕ → ℕ → ℕ → ℕ → ℕ
@@ -48,7 +49,14 @@ short_first F a b places sets σ p K r =
     let e : length (encs (cons (first_term (terms_at F a b p)) nil)) ≤ atom_cells = rw (first_alone F a b places sets σ p K r) at h in
     rw append-nil at e
 
-module _ (F a b P S : List ℕ) (s t : ℕ) (R : Comparable F a b P S s t 1) where
+module _ {F a b P S : List ℕ} {s t : ℕ} (R : Comparable F a b P S s t 1) where
+  -- what is found at the two places
+  pub first_found : (r l : Look) → r ≡ look_at a b P s → r ≡ l → Means F a b P s l
+  first_found r l e f = looked_as F a b P S R.σ s R.store R.first_run r l e f
+
+  pub second_found : (r l : Look) → r ≡ look_at a b P t → r ≡ l → Means F a b P t l
+  second_found r l e f = looked_as F a b P S R.σ t R.store R.second_run r l e f
+
   K : RightStore F a b P S R.σ
   K = R.store
 
@@ -155,7 +163,7 @@ module _ (F a b P S : List ℕ) (s t : ℕ) (R : Comparable F a b P S s t 1) whe
         outcome_for F a b P S _ _ _ _ r P' S'
         (λ σ K' τ h. rw (es, et, M.0, N.0) (λ e. ap (λ (us : Terms). cons (app f us) nil) e, λ e. cc))
 
-module _ (F a b P S : List ℕ) (s t n : ℕ) (R : Comparable F a b P S s t n) where
+module _ {F a b P S : List ℕ} {s t n : ℕ} (R : Comparable F a b P S s t n) where
   -- no terms
   pub none_outcome : n ≡ 0 → Compared F a b P S s t n true P S
   none_outcome e = rw e (outcome_same F a b P S nil nil (λ σ K' τ h. refl))
@@ -236,3 +244,32 @@ module _ (F a b P S : List ℕ) (s t n : ℕ) (R : Comparable F a b P S s t n) w
           (first_term (terms_at F a b s)) (first_term (terms_at F a b t))
           (take_terms m (terms_at F a b (s + cells_of F (cells_at a b s) 1))) (take_terms m (terms_at F a b (t + cells_of F (cells_at a b t) 1)))
           P' S' r P'' S'' (rw (first.first_alone, second.first_alone) at o) o')
+
+-- the comparison of n terms at two places has come to other places, with m of them left: what is found there is the outcome of all
+pub record Going (F a b P S : List ℕ) (s t n : ℕ) (P' S' : List ℕ) (s' t' m : ℕ) : Type 0 where
+  pub now : Comparable F a b P' S' s' t' m
+  pub lighter : load F a b P' s' t' m ≤ load F a b P s t n
+  pub outcome : (r : Bool) (P'' S'' : List ℕ) → Compared F a b P' S' s' t' m r P'' S'' → Compared F a b P S s t n r P'' S''
+
+module _ {F a b P S : List ℕ} {s t n : ℕ} {P' S' : List ℕ} {s' t' m : ℕ} (G : Going F a b P S s t n P' S' s' t' m) where
+  pub going_all : m ≡ 0 → Compared F a b P S s t n true P' S'
+  going_all e = G.outcome true P' S' (none_outcome G.now e)
+
+  module _ (k : ℕ) (e : m ≡ suc k) where
+    pub going_pair : Comparable F a b P' S' s' t' 1
+    going_pair = first_pair G.now k e
+
+    pub going_lighter : load F a b P' s' t' 1 ≤ load F a b P s t n
+    going_lighter = omega (arith, first_pair_lighter G.now k e, G.lighter)
+
+    pub going_parted : (P₁ S₁ P₂ S₂ : List ℕ) → Compared F a b P' S' s' t' 1 false P₁ S₁ → Compared F a b P S s t n false P₂ S₂
+    going_parted P₁ S₁ P₂ S₂ o = G.outcome false P₂ S₂ (first_parted G.now k e P₁ S₁ P₂ S₂ o)
+
+    pub going_more : (P₁ S₁ : List ℕ) → Compared F a b P' S' s' t' 1 true P₁ S₁
+        → Going F a b P S s t n P₁ S₁ (s' + cells_of F (cells_at a b s') 1) (t' + cells_of F (cells_at a b t') 1) k
+    going_more P₁ S₁ o =
+        record {
+          now = others G.now k e P₁ S₁ o;
+          lighter = omega (arith, others_lighter G.now k e P₁ S₁ o, G.lighter);
+          outcome = λ r P'' S'' o'. G.outcome r P'' S'' (others_outcome G.now k e P₁ S₁ o r P'' S'' o');
+        }

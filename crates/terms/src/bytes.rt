@@ -2,16 +2,14 @@
 ghost use Rattle.std.specs.Prelude.{◌≡◌, ◌+◌, ◌≤◌, ◌<◌, length};
 ghost use Rattle.terms.specs.Bytes.{word_at, noted_set, WordPut, SetPut};
 
-use crate::walk::wide_byte;
+use crate::walk::narrow;
 
 // The word in two bytes.
 pub fn word_at(bytes: &[u8], i: usize) -> usize
     requires { i + 2 ≤ length bytes.now }
     ensures { (result ≡ word_at bytes.now i) × (result < 65536) }
 {
-    let low = wide_byte(bytes[i]);
-    let high = wide_byte(bytes[i + 1]);
-    low + 256 * high
+    usize::from(u16::from_le_bytes([bytes[i], bytes[i + 1]]))
 }
 
 // Puts a word into two bytes.
@@ -19,8 +17,7 @@ pub fn put_word(bytes: &mut [u8], i: usize, word: usize)
     requires { (i + 2 ≤ length bytes.old) × (word < 65536) }
     ensures { WordPut bytes.old bytes.new i word }
 {
-    bytes[i] = (word % 256) as u8;
-    bytes[i + 1] = (word / 256) as u8;
+    bytes[i..i + 2].copy_from_slice(&narrow(word).to_le_bytes());
 }
 
 // The set in four bytes.
@@ -28,9 +25,7 @@ pub fn noted_set(bytes: &[u8], i: usize) -> u32
     requires { i + 4 ≤ length bytes.now }
     ensures { result ≡ noted_set bytes.now i }
 {
-    let low = word_at(bytes, i);
-    let high = word_at(bytes, i + 2);
-    (low + 65536 * high) as u32
+    u32::from_le_bytes([bytes[i], bytes[i + 1], bytes[i + 2], bytes[i + 3]])
 }
 
 // Puts a set into four bytes.
@@ -38,8 +33,5 @@ pub fn put_set(bytes: &mut [u8], i: usize, set: u32)
     requires { i + 4 ≤ length bytes.old }
     ensures { SetPut bytes.old bytes.new i set }
 {
-    let low = set % 65536;
-    let high = set / 65536;
-    put_word(bytes, i, low as usize);
-    put_word(bytes, i + 2, high as usize);
+    bytes[i..i + 4].copy_from_slice(&set.to_le_bytes());
 }

@@ -2,26 +2,17 @@
 ghost use Rattle.std.specs.Prelude.{◌≡◌};
 ghost use Rattle.terms.specs.Cursor.{step_at};
 
-#[derive(Drop)]
+#[derive(Clone, Copy)]
 pub struct Cursor {
     pub at: usize,
 }
 
-// What stands at a reading place: a cell, with the place after it, or the end.
-#[derive(Drop)]
-pub enum Step {
-    Cell(u16, Cursor),
-    End,
-}
-
 impl Cursor {
-    pub fn step(self, cells: &[u16]) -> Step
+    // The cell at a reading place with the place after it, unless the cells end there.
+    pub fn step(self, cells: &[u16]) -> Option<(u16, Cursor)>
         ensures { result ≡ step_at cells.now self.at }
     {
-        let at = self.at;
-        if cells.len() <= at {
-            return Step::End;
-        }
-        Step::Cell(cells[at], Cursor { at: at + 1 })
+        let cell = *cells.get(self.at)?;
+        Some((cell, Cursor { at: self.at + 1 }))
     }
 }

@@ -5,7 +5,7 @@ ghost use Rattle.terms.specs.Store.{all_variables};
 ghost use Rattle.terms.specs.Noted.{IsBound, count_of, Coded, PlacesPut, noted_size, noted_end, BindingsPut, BindingsTaken};
 
 use crate::bytes::{noted_set, put_set};
-use crate::unifier::{NO_PLACE, VARIABLES};
+use crate::unifier::NO_PLACE;
 use crate::walk::{has, only};
 
 // The bytes of a set, which stand before those of the places.
@@ -16,12 +16,10 @@ pub fn bound_set(places: &[u8; 32]) -> u32
     ensures { Marks (IsBound places.now) result }
 {
     let mut set = 0u32;
-    let mut x = 0;
-    while x < VARIABLES {
-        if places[x] < NO_PLACE {
-            set = set | only(x);
+    for (x, place) in places.iter().enumerate() {
+        if *place < NO_PLACE {
+            set |= only(x);
         }
-        x += 1;
     }
     set
 }
@@ -30,7 +28,7 @@ pub fn bound_set(places: &[u8; 32]) -> u32
 pub fn noted_size(set: u32) -> usize
     ensures { (result ≡ noted_size set) × (result ≤ 36) }
 {
-    SET + u32::count_ones(set) as usize
+    SET + set.count_ones() as usize
 }
 
 // Puts the places of the variables in a set, in the order of the variables.
@@ -39,13 +37,11 @@ fn put_places(places: &[u8; 32], set: u32, bytes: &mut [u8], at: usize)
     ensures { PlacesPut places.now bytes.old bytes.new set at all_variables }
 {
     let mut end = at;
-    let mut x = 0;
-    while x < VARIABLES {
+    for (x, place) in places.iter().enumerate() {
         if has(set, x) {
-            bytes[end] = places[x];
+            bytes[end] = *place;
             end += 1;
         }
-        x += 1;
     }
 }
 
@@ -57,13 +53,11 @@ fn take_places(bytes: &[u8], set: u32, from: usize, places: &mut [u8; 32]) -> us
 {
     *places = [NO_PLACE; 32];
     let mut end = from;
-    let mut x = 0;
-    while x < VARIABLES {
+    for (x, place) in places.iter_mut().enumerate() {
         if has(set, x) {
-            places[x] = bytes[end];
+            *place = bytes[end];
             end += 1;
         }
-        x += 1;
     }
     end
 }

@@ -7,21 +7,7 @@ ghost use Rattle.terms.specs.Walk.{cells_of, Cells, Present, InRun, InSets};
 // "a variable, 32768 + v"
 pub const FIRST_VARIABLE: u16 = 32768;
 
-// A word as an index or a count.
-pub fn wide(x: u16) -> usize
-    ensures { (result ≡ x) × (result < 65536) }
-{
-    x as usize
-}
-
-// A byte as an index, a place or a part of a word.
-pub fn wide_byte(x: u8) -> usize
-    ensures { (result ≡ x) × (result < 256) }
-{
-    x as usize
-}
-
-// A count or a place as a word.
+// A count or a place as a word. Not by `TryFrom`, which would leave each caller a refusal that cannot come.
 pub fn narrow(x: usize) -> u16
     requires { x < 65536 }
     ensures { result ≡ x }
@@ -34,17 +20,18 @@ pub fn terms_end(run: &[u16], functions: &[u16], n: usize) -> usize
     requires { Run functions.now run.now n }
     ensures { result ≡ cells_of functions.now run.now n }
 {
-    if n == 0 {
-        return 0;
+    let mut left = n;
+    let mut end = 0;
+    // A `while`: a function's cell asks for terms of its own, so that no range says how many cells there are.
+    while left != 0 {
+        let cell = run[end];
+        left -= 1;
+        if cell < FIRST_VARIABLE {
+            left += usize::from(functions[usize::from(cell)]);
+        }
+        end += 1;
     }
-    let cell = run[0];
-    if cell < FIRST_VARIABLE {
-        let at = wide(cell);
-        let arity = wide(functions[at]);
-        1 + terms_end(&run[1..], functions, n - 1 + arity)
-    } else {
-        1 + terms_end(&run[1..], functions, n - 1)
-    }
+    end
 }
 
 // The set that has the variable v alone.
@@ -60,15 +47,13 @@ pub fn present(run: &[u16]) -> u32
     requires { Cells run.now }
     ensures { Present run.now result }
 {
-    if run.len() == 0 {
-        return 0;
+    let mut set = 0;
+    for cell in run {
+        if FIRST_VARIABLE <= *cell {
+            set |= only(usize::from(*cell - FIRST_VARIABLE));
+        }
     }
-    let later = present(&run[1..]);
-    let cell = run[0];
-    if cell < FIRST_VARIABLE {
-        return later;
-    }
-    later | only(wide(cell - FIRST_VARIABLE))
+    set
 }
 
 // Whether the set has the variable.
@@ -84,18 +69,7 @@ pub fn all_in(run: &[u16], set: u32) -> bool
     requires { Cells run.now }
     ensures { T result ↔ ((v : ℕ) → InRun v run.now → Has set v) }
 {
-    if run.len() == 0 {
-        return true;
-    }
-    let cell = run[0];
-    if cell < FIRST_VARIABLE {
-        return all_in(&run[1..], set);
-    }
-    if has(set, wide(cell - FIRST_VARIABLE)) {
-        all_in(&run[1..], set)
-    } else {
-        false
-    }
+    run.iter().all(|cell| *cell < FIRST_VARIABLE || has(set, usize::from(*cell - FIRST_VARIABLE)))
 }
 
 // The union of the sets of the run's variables; the set of variable v is at `base` + v.
@@ -103,14 +77,11 @@ pub fn union_of(run: &[u16], base: usize, sets: &[u32; 32]) -> u32
     requires { (Cells run.now) × (base ≤ 16) }
     ensures { (z : ℕ) → Has result z ↔ InSets run.now base sets.now z }
 {
-    if run.len() == 0 {
-        return 0;
+    let mut union = 0;
+    for cell in run {
+        if FIRST_VARIABLE <= *cell {
+            union |= sets[base + usize::from(*cell - FIRST_VARIABLE)];
+        }
     }
-    let later = union_of(&run[1..], base, sets);
-    let cell = run[0];
-    if cell < FIRST_VARIABLE {
-        return later;
-    }
-    let at = base + wide(cell - FIRST_VARIABLE);
-    later | sets[at]
+    union
 }

@@ -1,12 +1,15 @@
 -- Cutting bytes at a separator: what one step of the search knows, and how parts go on behind the first.
 use Prim.Native.Nat.{ℕ, suc, ◌+◌, ◌-◌, ◌≤◌, ◌<◌}
 use mathlib.Core.Path.{◌≡◌, refl, sym, ap, ◌∙◌}
-use mathlib.Core.Bool.{Bool, true, false, cond}
+use mathlib.Core.Bool.{Bool, true, false, not, cond}
+use Rattle.std.specs.Prelude.{Some, None}
+use Rattle.std.specs.List.{position_or_len, position}
+use Rattle.std.specs.Option.{unwrap_or}
 use mathlib.Core.List.{List, [], ◌∷◌, ◌++◌, append-nil, append_assoc}
 use native.Mathlib.Omega.{arith}
 use lib.ListN.{length, get_or, take, drop, length-drop, drop_of_length-le}
 use lib.Seq.{drop-cons, drop-drop, take_all, take-suc}
-use lib.Dec.{eqb}
+use lib.Dec.{eqb, ltb}
 use borrow.Author.Tests.{eq-eqb, ne_eqb, lt-ltb, le-ltb}
 use native.Mathlib.Decide.{dec_lt}
 use Rattle.text.specs.Line.{up_to, parts, onto, behind}
@@ -51,6 +54,24 @@ up_to_short b (x ∷ xs) = go (eqb x b) (up_to_short b xs)
     go : (t : Bool) → length (up_to b xs) ≤ length xs → length (cond t [] (x ∷ up_to b xs)) ≤ length (x ∷ xs)
     go true ih = omega arith
     go false ih = omega arith
+
+-- what stands before the separator is as long as the place of the first separator says
+up_to_position : (b : ℕ) (s : List ℕ) → length (up_to b s) ≡ position_or_len (λ x. eqb x b) s
+up_to_position b [] = refl
+up_to_position b (x ∷ xs) = go (eqb x b) (up_to_position b xs)
+  where
+    go : (t : Bool) → length (up_to b xs) ≡ position_or_len (λ y. eqb y b) xs
+        → length (cond t [] (x ∷ up_to b xs)) ≡ cond (not t) (1 + position_or_len (λ y. eqb y b) xs) 0
+    go true ih = refl
+    go false ih = omega arith
+
+pub up_to_found : (b : ℕ) (s : List ℕ) → unwrap_or (position (λ x. eqb x b) s) (length s) ≡ length (up_to b s)
+up_to_found b s = rw (← up_to_position b s) (go (dec_lt (length (up_to b s)) (length s)))
+  where
+    go : Dec (length (up_to b s) < length s)
+        → unwrap_or (cond (ltb (length (up_to b s)) (length s)) (Some (length (up_to b s))) None) (length s) ≡ length (up_to b s)
+    go (yes h) = rw (lt-ltb (length (up_to b s)) (length s) h)
+    go (no h) = let k = up_to_short b s in let l : length s ≤ length (up_to b s) = omega arith in rw (le-ltb (length (up_to b s)) (length s) l) (omega arith)
 
 -- at the end nothing is left to pass
 pub up_to_ends : (b : ℕ) (s : List ℕ) (i : ℕ) → length s ≤ i → length (up_to b (drop i s)) ≡ 0

@@ -1,12 +1,11 @@
 -- Laws of what lent room holds: its length, its elements, and a write into it.
-use Prim.Native.Nat.{ℕ, zero, suc, ◌+◌, ◌-◌, ◌≤◌, ◌<◌}
+use Prim.Native.Nat.{ℕ, zero, suc, ◌-◌, ◌≤◌, ◌<◌}
 use mathlib.Core.Path.{◌≡◌, refl, sym, ap, ◌∙◌}
 use mathlib.Core.List.{List, [], ◌∷◌, ◌++◌}
 use native.Mathlib.Omega.{arith}
 use native.Mathlib.Nat.{zero-sub, sub-zero, suc-sub-suc}
-use native.Mathlib.Numerals.{add-one}
-use lib.ListN.{length, get_or, take, drop, set, replicate, length-set}
-use lib.Seq.{take-suc-set, take_all}
+use lib.ListN.{length, get_or, take, drop, set, replicate}
+use lib.Seq.{take_all}
 use Rattle.text.specs.Room.{in_room}
 
 pub length_in_room : (n : ℕ) (xs : List ℕ) → length (in_room n xs) ≡ n
@@ -62,18 +61,15 @@ in_room_take zero xs = refl
 in_room_take (suc n) [] = refl
 in_room_take (suc n) (x ∷ xs) = ap (λ (l : List ℕ). x ∷ l) (in_room_take n xs)
 
--- zeros from a place on, written one by one
-in_room_zero : (n : ℕ) (xs : List ℕ) → in_room n (xs ++ 0 ∷ []) ≡ in_room n xs
-in_room_zero zero xs = refl
-in_room_zero (suc n) [] = refl
-in_room_zero (suc n) (x ∷ xs) = ap (λ (l : List ℕ). x ∷ l) (in_room_zero n xs)
-
-pub cleared_more : (l : List ℕ) (i : ℕ) → i < length l → in_room (length (set l i 0)) (take (i + 1) (set l i 0)) ≡ in_room (length l) (take i l)
-cleared_more l i h = rw (length-set, add-one, take-suc-set l i 0 h) (in_room_zero (length l) (take i l))
+-- zeros from a place on
+pub cleared : (l : List ℕ) (i : ℕ) → take i l ++ replicate (length l - i) 0 ≡ in_room (length l) (take i l)
+cleared l zero = rw sub-zero (sym (in_room_empty (length l)))
+cleared [] (suc i) = rw zero-sub
+cleared (x ∷ xs) (suc i) = rw suc-sub-suc (ap (λ (l : List ℕ). x ∷ l) (cleared xs i))
 
 in_room_all : (l : List ℕ) → in_room (length l) l ≡ l
 in_room_all [] = refl
 in_room_all (x ∷ xs) = ap (λ (l : List ℕ). x ∷ l) (in_room_all xs)
 
-pub cleared_all : (l : List ℕ) (i : ℕ) → length l ≤ i → l ≡ in_room (length l) (take i l)
-cleared_all l i h = rw (take_all i l h) (sym (in_room_all l))
+pub cleared_none : (l : List ℕ) (i : ℕ) → length l ≤ i → l ≡ in_room (length l) (take i l)
+cleared_none l i h = rw (take_all i l h) (sym (in_room_all l))

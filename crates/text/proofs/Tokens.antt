@@ -1,44 +1,15 @@
 -- Laws of tokens: one step of each loop over a token's bytes, and the forms of a token that is not empty.
-use Prim.Native.Nat.{ℕ, suc, ◌+◌, ◌-◌, ◌*◌, ◌≤◌, ◌<◌, min}
+use Prim.Native.Nat.{ℕ, suc, ◌≤◌, ◌<◌}
 use mathlib.Core.Path.{◌≡◌, refl}
 use mathlib.Core.Bool.{Bool, true, false, not, cond, ◌&&◌}
 use mathlib.Core.List.{List, [], ◌∷◌}
 use native.Mathlib.Omega.{arith}
 use lib.ListN.{length, get_or, drop, drop_of_length-le}
 use lib.Seq.{drop-cons}
-use lib.Dec.{eqb, leb}
-use Rattle.text.specs.declared.token.Token.TheVariants.{Name, Wrong}
-use Rattle.text.specs.Name.{name_bytes}
-use Rattle.text.specs.Token.{is_lower, is_digit, is_name_byte, every, is_name, zero_first, is_number, value_from, too_large, digit0, sign_of, token_of}
-
-module _ (p : ℕ → Bool) (s : List ℕ) (i : ℕ) (h : i < length s) where
-  pub every_fails : p (get_or s i 0) ≡ false → every p (drop i s) ≡ false
-  every_fails e = rw (drop-cons s i 0 h, e)
-
-  pub every_goes_on : p (get_or s i 0) ≡ true → every p (drop i s) ≡ every p (drop (suc i) s)
-  every_goes_on e = rw (drop-cons s i 0 h, e)
-
-pub every_ends : (p : ℕ → Bool) (s : List ℕ) (i : ℕ) → length s ≤ i → every p (drop i s) ≡ true
-every_ends p s i h = rw (drop_of_length-le s h)
-
-pub value_from_step : (n : ℕ) (s : List ℕ) (i : ℕ) → i < length s → value_from n (drop i s) ≡ value_from (10 * n + (get_or s i 0 - digit0)) (drop (suc i) s)
-value_from_step n s i h = rw (drop-cons s i 0 h)
-
-pub value_from_ends : (n : ℕ) (s : List ℕ) (i : ℕ) → length s ≤ i → value_from n (drop i s) ≡ n
-value_from_ends n s i h = rw (drop_of_length-le s h)
-
--- numbers that are the same below the cap come to the same with more digits behind them
-pub capped_alike : (a b : ℕ) (ds : List ℕ) → min too_large a ≡ min too_large b → min too_large (value_from a ds) ≡ min too_large (value_from b ds)
-capped_alike a b [] e = e
-capped_alike a b (d ∷ ds) e = capped_alike (10 * a + (d - digit0)) (10 * b + (d - digit0)) ds (omega arith)
-
-pub is_name_of : (s : List ℕ) → 0 < length s → is_name s ≡ is_lower (get_or s 0 0) && (leb (length s) name_bytes && every is_name_byte (drop 1 s))
-is_name_of [] h = absurd (omega arith)
-is_name_of (b ∷ bs) h = refl
-
-pub is_name_empty : (s : List ℕ) → length s ≡ 0 → is_name s ≡ false
-is_name_empty [] e = refl
-is_name_empty (b ∷ bs) e = absurd (omega arith)
+use lib.Dec.{eqb}
+use Rattle.std.specs.Prelude.{Some, None}
+use Rattle.text.specs.declared.token.Token.TheVariants.{Name}
+use Rattle.text.specs.Token.{is_digit, every, is_name, zero_first, is_number, digit0, sign_of, token_of}
 
 pub zero_first_of : (s : List ℕ) (i : ℕ) → suc i < length s → zero_first (drop i s) ≡ eqb (get_or s i 0) digit0
 zero_first_of s i h = let k : i < length s = omega arith in rw (drop-cons s i 0 k, drop-cons s (suc i) 0 h)
@@ -53,14 +24,14 @@ is_number_of (d ∷ ds) h = refl
 pub is_number_empty : (s : List ℕ) (i : ℕ) → length s ≤ i → is_number (drop i s) ≡ false
 is_number_empty s i h = rw (drop_of_length-le s h)
 
-pub token_of_empty : (query : Bool) (s : List ℕ) → length s ≡ 0 → token_of query s ≡ Wrong
+pub token_of_empty : (query : Bool) (s : List ℕ) → length s ≡ 0 → token_of query s ≡ None
 token_of_empty query [] e = refl
 token_of_empty query (b ∷ bs) e = absurd (omega arith)
 
-pub token_of_of : (query : Bool) (s : List ℕ) → 0 < length s → token_of query s ≡ cond (is_name s) Name (sign_of query (get_or s 0 0) (drop 1 s))
+pub token_of_of : (query : Bool) (s : List ℕ) → 0 < length s → token_of query s ≡ cond (is_name s) (Some Name) (sign_of query (get_or s 0 0) (drop 1 s))
 token_of_of query [] h = absurd (omega arith)
 token_of_of query (b ∷ bs) h = refl
 
-pub token_of_name : (query : Bool) (s : List ℕ) → is_name s ≡ true → token_of query s ≡ Name
+pub token_of_name : (query : Bool) (s : List ℕ) → is_name s ≡ true → token_of query s ≡ Some Name
 token_of_name query [] e = absurd (let z : ◌≡◌ {A = ℕ} 0 1 = cc in omega arith)
 token_of_name query (b ∷ bs) e = rw e

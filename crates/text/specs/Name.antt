@@ -1,5 +1,7 @@
 -- Names as they are kept: 16 bytes each, one behind another, and how one is found among them.
-use Rattle.std.specs.Prelude.{ℕ, zero, suc, ◌+◌, ◌*◌, ◌%◌, ◌≤◌, ◌<◌, Bool, true, false, cond, ◌&&◌, ◌≡◌, List, [], ◌∷◌, get_or, take, drop, eqb}
+use Rattle.std.specs.Prelude.{ℕ, zero, suc, ◌+◌, ◌*◌, ◌%◌, ◌≤◌, ◌<◌, Bool, cond, ◌≡◌, List, get_or, take, drop}
+use Rattle.std.specs.List.{fold}
+use Rattle.std.specs.Str.{bytes_eq}
 use Rattle.text.specs.Room.{in_room}
 
 -- "Each name is kept as 16 bytes, padded with zeros"
@@ -19,10 +21,7 @@ entry names i = take name_bytes (drop (i * name_bytes) names)
 
 -- whether two lists are the same
 abbrev pub same : List ℕ → List ℕ → Bool
-same [] [] = true
-same [] (y ∷ ys) = false
-same (x ∷ xs) [] = false
-same (x ∷ xs) (y ∷ ys) = eqb x y && same xs ys
+same xs ys = bytes_eq xs ys
 
 -- the number of the first that is the key of n names from number i on, or i + n where none is
 abbrev pub seek : List ℕ → List ℕ → ℕ → ℕ → ℕ
@@ -33,12 +32,8 @@ seek names key i (suc n) = cond (same (entry names i) key) i (seek names key (su
 abbrev pub hash_below : ℕ
 hash_below = 65536
 
-abbrev pub hash_from : ℕ → List ℕ → ℕ
-hash_from h [] = h
-hash_from h (b ∷ bs) = hash_from ((h * 31 + b) % hash_below) bs
-
 abbrev pub hash_of : List ℕ → ℕ
-hash_of key = hash_from 0 key
+hash_of key = fold (λ h b. (h * 31 + b) % hash_below) 0 key
 
 -- the hashes of the names from number i on, and below number n
 abbrev pub Hashed : List ℕ → List ℕ → ℕ → ℕ → Type 0

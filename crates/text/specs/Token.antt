@@ -1,9 +1,8 @@
 -- Tokens of scenario texts: names, numbers, variables.
-use Rattle.std.specs.Prelude.{ℕ, ◌+◌, ◌-◌, ◌*◌, min, Bool, true, false, not, cond, ◌&&◌, ◌||◌, List, [], ◌∷◌, length, eqb, leb}
+use Rattle.std.specs.Prelude.{ℕ, ◌+◌, ◌-◌, ◌*◌, min, Bool, true, false, not, cond, ◌&&◌, ◌||◌, Option, Some, None, List, [], ◌∷◌, length, eqb, leb}
+use Rattle.std.specs.List.{list_all, fold}
 use Rattle.text.specs.declared.token.Token.{Token}
-use Rattle.text.specs.declared.token.Token.TheVariants.{Wrong, Name, Variable}
-use Rattle.text.specs.declared.token.Number.{Number}
-use Rattle.text.specs.declared.token.Number.TheVariants.{None, Value}
+use Rattle.text.specs.declared.token.Token.TheVariants.{Name, Variable}
 use Rattle.text.specs.Name.{name_bytes}
 
 -- the bytes that tokens are made of
@@ -39,8 +38,7 @@ abbrev pub is_name_byte : ℕ → Bool
 is_name_byte b = is_lower b || (is_digit b || eqb b underscore)
 
 abbrev pub every : (ℕ → Bool) → List ℕ → Bool
-every p [] = true
-every p (b ∷ bs) = p b && every p bs
+every p bs = list_all p bs
 
 -- "A name is a lower-case letter and then up to 15 letters a-z, digits or `_`"
 abbrev pub is_name : List ℕ → Bool
@@ -59,8 +57,7 @@ is_number [] = false
 is_number (d ∷ ds) = not (zero_first (d ∷ ds)) && every is_digit (d ∷ ds)
 
 abbrev pub value_from : ℕ → List ℕ → ℕ
-value_from n [] = n
-value_from n (d ∷ ds) = value_from (10 * n + (d - digit0)) ds
+value_from n ds = fold (λ m d. 10 * m + (d - digit0)) n ds
 
 -- what the digits say
 abbrev pub value : List ℕ → ℕ
@@ -74,22 +71,22 @@ abbrev pub capped : List ℕ → ℕ
 capped ds = min too_large (value ds)
 
 -- a number, of any size
-abbrev pub number_of : List ℕ → Number
-number_of ds = cond (is_number ds) (Value (capped ds)) None
+abbrev pub number_of : List ℕ → Option ℕ
+number_of ds = cond (is_number ds) (Some (capped ds)) None
 
 -- "`V` or `G` with any larger number is well formed"
-abbrev pub signed : Bool → Number → Token
-signed grounded None = Wrong
-signed grounded (Value n) = Variable grounded n
+abbrev pub signed : Bool → Option ℕ → Option Token
+signed grounded None = None
+signed grounded (Some n) = Some (Variable grounded n)
 
-abbrev pub variable_of : Bool → List ℕ → Token
+abbrev pub variable_of : Bool → List ℕ → Option Token
 variable_of grounded ds = signed grounded (number_of ds)
 
 -- "Variables are `V0` to `V15`; in the query `G` instead of `V` marks ground."
-abbrev pub sign_of : Bool → ℕ → List ℕ → Token
-sign_of query b ds = cond (eqb b upper_v) (variable_of false ds) (cond (query && eqb b upper_g) (variable_of true ds) Wrong)
+abbrev pub sign_of : Bool → ℕ → List ℕ → Option Token
+sign_of query b ds = cond (eqb b upper_v) (variable_of false ds) (cond (query && eqb b upper_g) (variable_of true ds) None)
 
 -- a token of a query line, or of a clause line
-abbrev pub token_of : Bool → List ℕ → Token
-token_of query [] = Wrong
-token_of query (b ∷ bs) = cond (is_name (b ∷ bs)) Name (sign_of query b bs)
+abbrev pub token_of : Bool → List ℕ → Option Token
+token_of query [] = None
+token_of query (b ∷ bs) = cond (is_name (b ∷ bs)) (Some Name) (sign_of query b bs)

@@ -1,4 +1,5 @@
 // Bytes written into lent room from a place on: each function hands back the place behind them, or one past the room.
+// One past the room is a place like any other to the next function, so a caller tests once, behind the last.
 ghost use Rattle.std.specs.Prelude.{◌≡◌, [], ◌∷◌, ◌+◌, ◌*◌, ◌≤◌, ◌<◌, length, take};
 ghost use Rattle.text.specs.Decimal.{decimal};
 ghost use Rattle.text.specs.Line.{up_to};
@@ -7,8 +8,7 @@ ghost use Rattle.text.specs.Put.{Put};
 ghost use Rattle.text.specs.Room.{in_room};
 ghost use Rattle.text.specs.Token.{digit0};
 
-use crate::bytes::DIGIT_0;
-use crate::name::NAME_BYTES;
+use crate::name::name_at;
 
 pub fn put_byte(out: &mut [u8], at: usize, b: u8) -> usize
     ensures { Put (b ∷ []) out.old out.new at result }
@@ -24,10 +24,8 @@ pub fn put_bytes(out: &mut [u8], at: usize, s: &[u8]) -> usize
     ensures { Put s.now out.old out.new at result }
 {
     let mut end = at;
-    let mut i = 0;
-    while i < s.len() {
-        end = put_byte(out, end, s[i]);
-        i += 1;
+    for b in s {
+        end = put_byte(out, end, *b);
     }
     end
 }
@@ -36,7 +34,7 @@ fn digit(n: usize) -> u8
     requires { n < 10 }
     ensures { result ≡ digit0 + n }
 {
-    DIGIT_0 + n as u8
+    b'0' + n as u8
 }
 
 // "Numbers have no leading zero."
@@ -53,7 +51,7 @@ pub fn put_wide(out: &mut [u8], at: usize, n: usize) -> usize
 pub fn put_number(out: &mut [u8], at: usize, n: u16) -> usize
     ensures { Put (decimal n) out.old out.new at result }
 {
-    put_wide(out, at, n as usize)
+    put_wide(out, at, usize::from(n))
 }
 
 // Name number i: its bytes before the first zero.
@@ -61,16 +59,12 @@ pub fn put_name(out: &mut [u8], at: usize, names: &[u8], i: usize) -> usize
     requires { (i < max_names) × (i * name_bytes + name_bytes ≤ length names.now) }
     ensures { Put (up_to 0 (entry names.now i)) out.old out.new at result }
 {
-    let from = i * NAME_BYTES;
     let mut end = at;
-    let mut k = 0;
-    while k < NAME_BYTES {
-        let b = names[from + k];
-        if b == 0 {
+    for b in name_at(names, i) {
+        if *b == 0 {
             return end;
         }
-        end = put_byte(out, end, b);
-        k += 1;
+        end = put_byte(out, end, *b);
     }
     end
 }
@@ -79,9 +73,7 @@ pub fn put_name(out: &mut [u8], at: usize, names: &[u8], i: usize) -> usize
 pub fn clear(out: &mut [u8], from: usize)
     ensures { out.new ≡ in_room (length out.old) (take from out.old) }
 {
-    let mut i = from;
-    while i < out.len() {
-        out[i] = 0;
-        i += 1;
+    if from < out.len() {
+        out[from..].fill(0);
     }
 }

@@ -9,8 +9,11 @@ use Rattle.text.specs.Room.{in_room}
 use Rattle.text.specs.Name.{name_bytes}
 use Rattle.text.proofs.Rooms.{set_behind, set_within}
 use Rattle.cells.specs.declared.state.Counts.{Counts}
+use Rattle.cells.specs.declared.state.SymbolRoom.{SymbolRoom}
 use Rattle.cells.specs.declared.state.Progress.{Progress}
-use Rattle.cells.specs.declared.cells.Cells.TheVariants.{Fault as CellsFault, Done}
+use Rattle.std.specs.Prelude.{Ok, Err}
+use Rattle.program.specs.Reply.{number_of}
+use Rattle.program.specs.declared.reply.Fault.{Fault}
 use Rattle.declarations.specs.declared.lined.Lined.TheVariants.{More, Last}
 use Rattle.cells.specs.TextSoFar.{Read, wrong, right, next, nothing}
 use Rattle.cells.specs.Cells.{Row}
@@ -36,20 +39,20 @@ pub record Through (o : Read Row) (p : Progress) (front modes words : List ℕ) 
   pub stands : Stands p ms out front modes words
 
 module _ (front modes words : List ℕ) where
-  pub cells_fault : (o : Read Row) (n place : ℕ) → CellsAs front modes words (CellsFault n place) o → o ≡ wrong n place
-  cells_fault (wrong m q) n place e = cc
-  cells_fault (right r) n place e = absurd (let f = e.1 in let z : ◌≡◌ {A = ℕ} 0 1 = cc in omega arith)
+  pub cells_fault : (o : Read Row) (fault : Fault) → CellsAs front modes words (Err fault) o → o ≡ wrong (number_of fault.refusal) fault.place
+  cells_fault (wrong m q) fault e = let number : m ≡ number_of fault.refusal = cc in let place : q ≡ fault.place = cc in λ i. wrong (number i) (place i)
+  cells_fault (right r) fault e = absurd (let f = e.1 in let z : ◌≡◌ {A = ℕ} 0 1 = cc in omega arith)
 
-  pub cells_done : (o : Read Row) (p : Progress) → CellsAs front modes words (Done p) o → Through o p front modes words
+  pub cells_done : (o : Read Row) (p : Progress) → CellsAs front modes words (Ok p) o → Through o p front modes words
   cells_done (wrong m q) p e = absurd (let z : ◌≡◌ {A = ℕ} 0 1 = cc in omega arith)
   cells_done (right r) p e =
       let f = e.1 in
       let same : p ≡ e.0 = cc in
       record { ms = r.modes; out = r.out; is = ap right (rw same e.2); stands = rw same e.3 }
 
-module _ (ns ws : List ℕ) (c : Counts) (names hashes arities words : List ℕ) (holds : Holds ns ws c names hashes arities words) where
+module _ (ns ws : List ℕ) (c : Counts) (symbols : SymbolRoom) (words : List ℕ) (holds : Holds ns ws c symbols words) where
   -- the words behind the arities change no arity
-  kept_behind : (c' : Counts) (xs : List ℕ) → c'.predicates ≡ c.predicates → c'.functions ≡ c.functions → SymbolsHeld ns (ws ++ xs) c' names hashes arities
+  kept_behind : (c' : Counts) (xs : List ℕ) → c'.predicates ≡ c.predicates → c'.functions ≡ c.functions → SymbolsHeld ns (ws ++ xs) c' symbols
   kept_behind c' xs e f =
       record {
         named = holds.kept.named;
@@ -77,7 +80,7 @@ module _ (ns ws : List ℕ) (c : Counts) (names hashes arities words : List ℕ)
         rw (n, e) (set_within max_words (nothing.lines ++ ws) 0 through.out m)
 
     pub lined_clause : (m : ℕ) (words'' : List ℕ) → m ≡ p.atoms - 1 → words'' ≡ set words' c.words m
-        → LinedAs names hashes arities words'' (More (record { predicates = c.predicates; functions = c.functions; clauses = c.clauses + 1; words = p.words }))
+        → LinedAs symbols words'' (Ok (More (record { predicates = c.predicates; functions = c.functions; clauses = c.clauses + 1; words = p.words })))
         (more_of (next o (λ r. right (with_clause (text_so_far c ns ws) r))))
     lined_clause m words'' e f =
         let c' : Counts = record { predicates = c.predicates; functions = c.functions; clauses = c.clauses + 1; words = p.words } in
@@ -123,9 +126,9 @@ module _ (c : Counts) {p : Progress} {ws ms out modes words : List ℕ} (st : St
   goal_count =
       omega (arith, st.place, st.met, length-append (ws ++ out) (p.variables ∷ ms))
 
-pub lined_goal : (ns ws : List ℕ) (c : Counts) (names hashes arities words : List ℕ) → Limited c → SymbolsHeld ns ws c names hashes arities
+pub lined_goal : (ns ws : List ℕ) (c : Counts) (symbols : SymbolRoom) (words : List ℕ) → Limited c → SymbolsHeld ns ws c symbols
     → (o : Read Row) (p : Progress) (ms out : List ℕ) → o ≡ right (row_of p ms out) → (count size : ℕ) → GoalPut c p ws ms out words count
     → size ≡ (c.predicates + c.functions) * name_bytes
-    → LinedAs names hashes arities words (Last count size) (last_of (next o (λ r. right (with_goal (text_so_far c ns ws) r))))
-lined_goal ns ws c names hashes arities words few kept o p ms out e count size g f =
+    → LinedAs symbols words (Ok (Last (record { words = count; names = size }))) (last_of (next o (λ r. right (with_goal (text_so_far c ns ws) r))))
+lined_goal ns ws c symbols words few kept o p ms out e count size g f =
     rw (e, g.counted, f ∙ sym kept.sized) (refl, g.all, kept.named, omega (arith, kept.sized, few))

@@ -13,13 +13,11 @@ use Rattle.text.proofs.Cuts.{parts_from, part_within}
 use Rattle.text.proofs.Names.{same_equal}
 use Rattle.text_lines.specs.declared.keyword.Kind.{Kind}
 use Rattle.text_lines.specs.declared.keyword.Kind.TheVariants.{Pred, Func, Clause, Query, Other}
-use Rattle.declarations.specs.declared.lined.Lined.{Lined}
-use Rattle.declarations.specs.declared.lined.Lined.TheVariants.{Fault, More, Last}
 use Rattle.text_lines.specs.Keyword.{pred, func, clause, query, kind_of}
 use Rattle.cells.specs.TextSoFar.{TextSoFar, wrong}
 use Rattle.declarations.specs.Declarations.{declaring, pred_line, func_line}
 use Rattle.text_lines.specs.Lines.{clause_line, query_line, line_of, fields_of}
-use Rattle.declarations.specs.Held.{more_of, Goes}
+use Rattle.declarations.specs.Held.{more_of}
 use Rattle.text_lines.specs.Goal.{last_of}
 
 abbrev pub KindIs : List ℕ → Kind → Type 0
@@ -92,9 +90,3 @@ module _ (line : List ℕ) (e : ℕ) (ends : e ≡ 0 + length (up_to tab (drop 0
 
     pub line_other : kind_of keyword ≡ Other → fields_of t base (parts tab line) ≡ wrong ill_formed base
     line_other f = by_kind f
-
--- what keeps to a limit keeps to a larger one
-pub goes_less : (most more : ℕ) (r : Lined) → most ≤ more → Goes most r → Goes more r
-goes_less most more (Fault number place) h g = tt
-goes_less most more (More c) h g = (g.0, omega (arith, g.1))
-goes_less most more (Last words names) h g = tt

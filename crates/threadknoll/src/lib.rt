@@ -4,6 +4,7 @@
 
 ghost use Rattle.std.specs.Prelude.{◌≡◌, ◌*◌, length};
 ghost use Rattle.program.specs.Limits.{max_words, max_bytes, max_rows};
+ghost use Rattle.program.specs.Reply.{replied};
 ghost use Rattle.text.specs.Name.{name_bytes, max_names};
 ghost use Rattle.table.specs.Table.{Promise};
 ghost use Rattle.reader.specs.Read.{Reads};
@@ -14,15 +15,16 @@ ghost use Rattle.threadknoll.specs.Told.{told};
 use analysis::analyse::analyse;
 use lister::list::list;
 use program::limits::{MAX_BYTES, MAX_DECLARED, MAX_ROWS, MAX_WORDS};
-use program::reply::Reply;
-use reader::read::read;
+use program::reply::{Fault, Reply};
+use reader::read::read_scenario;
 use text::name::NAME_BYTES;
 use writer::write::write;
 
-// A reply as C is told it.
-fn tell(reply: Reply, place: &mut usize, count: &mut usize) -> u16
-    ensures { told result place.new count.new ≡ reply }
+// An outcome as C is told it: its reply.
+fn tell(outcome: Result<usize, Fault>, place: &mut usize, count: &mut usize) -> u16
+    ensures { told result place.new count.new ≡ replied outcome }
 {
+    let reply = Reply::from(outcome);
     *place = reply.place;
     *count = reply.count;
     reply.number
@@ -66,7 +68,7 @@ pub fn threadknoll_read(
 ) -> u16
     ensures { Reads text.now (length words.old) (length names.old) (told result place.new count.new) (words.new, names.new) }
 {
-    tell(read(text, words, names), place, count)
+    tell(read_scenario(text, words, names), place, count)
 }
 
 // From an encoded program with its names back to the text.

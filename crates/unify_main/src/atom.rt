@@ -2,7 +2,7 @@
 ghost use Rattle.std.specs.Prelude.{◌↔◌, T};
 ghost use Rattle.unify_main.specs.AtomRun.{TermsRun, AtomRun};
 
-use terms::walk::{FIRST_VARIABLE, wide};
+use terms::walk::FIRST_VARIABLE;
 
 // "v is at most 15": no cell from here on is a variable's.
 const AFTER_VARIABLES: u16 = 32784;
@@ -13,43 +13,36 @@ pub const ATOM_CELLS: usize = 32;
 fn are_terms(run: &[u16], functions: &[u16], n: usize) -> bool
     ensures { T result ↔ TermsRun functions.now run.now n }
 {
-    if run.len() < n {
-        return false;
-    }
-    if n == 0 {
-        return run.len() == 0;
-    }
-    let cell = run[0];
-    if FIRST_VARIABLE <= cell {
-        if AFTER_VARIABLES <= cell {
+    let mut left = n;
+    for (at, cell) in run.iter().enumerate() {
+        if left == 0 || run.len() - at < left {
             return false;
         }
-        return are_terms(&run[1..], functions, n - 1);
+        left -= 1;
+        if *cell < FIRST_VARIABLE {
+            let Some(arity) = functions.get(usize::from(*cell)) else {
+                return false;
+            };
+            left += usize::from(*arity);
+        } else if AFTER_VARIABLES <= *cell {
+            return false;
+        }
     }
-    let at = wide(cell);
-    if functions.len() <= at {
-        return false;
-    }
-    let arity = wide(functions[at]);
-    if run.len() - n < arity {
-        return false;
-    }
-    are_terms(&run[1..], functions, n - 1 + arity)
+    left == 0
 }
 
 // Whether the run is an atom: a predicate and its argument terms.
 pub fn is_atom(run: &[u16], predicates: &[u16], functions: &[u16]) -> bool
     ensures { T result ↔ AtomRun predicates.now functions.now run.now }
 {
-    if run.len() == 0 {
-        return false;
-    }
     if ATOM_CELLS < run.len() {
         return false;
     }
-    let at = wide(run[0]);
-    if predicates.len() <= at {
+    let Some((predicate, arguments)) = run.split_first() else {
         return false;
-    }
-    are_terms(&run[1..], functions, wide(predicates[at]))
+    };
+    let Some(arity) = predicates.get(usize::from(*predicate)) else {
+        return false;
+    };
+    are_terms(arguments, functions, usize::from(*arity))
 }

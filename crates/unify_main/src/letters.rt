@@ -1,9 +1,9 @@
 // One letter a cell: `A` to `P` is a variable, `a` to `z` the function of that number, and `0` to `8` the predicate with as many arguments.
-ghost use Rattle.std.specs.Prelude.{◌≤◌, ◌≡◌, length, take};
+ghost use Rattle.std.specs.Prelude.{◌≤◌, length};
 
 use std::io;
 use terms::unifier::{FIRST_VARIABLES, VARIABLES};
-use terms::walk::{FIRST_VARIABLE, has, wide};
+use terms::walk::{FIRST_VARIABLE, has};
 
 // How many letters are a function's.
 const FUNCTION_LETTERS: u16 = 26;
@@ -12,32 +12,29 @@ const NO_CELL: u16 = 65535;
 
 fn cell_of(letter: u8) -> u16 {
     match letter {
-        b'A'..=b'P' => FIRST_VARIABLE + (letter - b'A') as u16,
-        b'a'..=b'z' => (letter - b'a') as u16,
-        b'0'..=b'8' => (letter - b'0') as u16,
+        b'A'..=b'P' => FIRST_VARIABLE + u16::from(letter - b'A'),
+        b'a'..=b'z' => u16::from(letter - b'a'),
+        b'0'..=b'8' => u16::from(letter - b'0'),
         _ => NO_CELL,
     }
 }
 
-// The cells that the letters stand for, and how many; none where they are too many.
-pub fn read_cells(letters: &[u8], cells: &mut [u16]) -> usize
-    ensures { (result ≤ length cells.new) × (result ≡ length (take result cells.new)) }
+// The cells that the letters stand for, put into the room; none where they are too many.
+pub fn read_cells<'a>(letters: &[u8], room: &'a mut [u16]) -> &'a [u16]
+    ensures { length result.now ≤ length room.old }
 {
-    if cells.len() < letters.len() {
-        return 0;
+    if room.len() < letters.len() {
+        return &[];
     }
-    let mut i = 0;
-    while i < letters.len() {
-        cells[i] = cell_of(letters[i]);
-        i += 1;
+    for (cell, letter) in room.iter_mut().zip(letters) {
+        *cell = cell_of(*letter);
     }
-    i
+    &room[..letters.len()]
 }
 
 // One letter on its way out.
 fn put(rt: &impl Print, letter: u8) -> io::Result<()> {
-    let one = [letter];
-    rt.write_all(&one)
+    rt.write_all(&[letter])
 }
 
 // Variable x of the store: those of the second atom have a mark behind their letter.
@@ -54,11 +51,10 @@ pub fn put_run(rt: &impl Print, run: &[u16], base: usize) -> io::Result<()>
     requires { base ≤ 16 }
 {
     for cell in run {
-        let cell = *cell;
-        if cell < FIRST_VARIABLE {
-            put(rt, b'a' + (cell % FUNCTION_LETTERS) as u8)?;
+        if *cell < FIRST_VARIABLE {
+            put(rt, b'a' + (*cell % FUNCTION_LETTERS) as u8)?;
         } else {
-            put_variable(rt, base + wide(cell - FIRST_VARIABLE))?;
+            put_variable(rt, base + usize::from(*cell - FIRST_VARIABLE))?;
         }
     }
     Ok(())

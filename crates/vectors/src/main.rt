@@ -18,6 +18,8 @@ use text::cut::{LINE_FEED, find};
 fn try_samples(rt: &(impl Files + Print), names: &[u8]) -> io::Result<()> {
     let mut agreed = 0;
     let mut tried = 0;
+    // A `for` over `split_inclusive` was tried: no bound on the counts can be stated, since an invariant over such an iterator does not
+    // compile in a function with type parameters.
     let mut at = 0;
     while at < names.len() {
         let end = find(names, at, LINE_FEED);

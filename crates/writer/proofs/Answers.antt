@@ -1,51 +1,29 @@
 -- The answer of `write`: which fault decides, and what the room holds in the end.
 use Prim.Native.Nat.{ℕ, zero, suc, ◌+◌, ◌*◌, ◌≤◌, ◌<◌}
-use mathlib.Core.Path.{◌≡◌, refl, sym, ap, ◌∙◌}
+use mathlib.Core.Path.{◌≡◌, refl, sym, ap, ap₂}
 use mathlib.Core.Bool.{Bool, true, false, cond}
 use mathlib.Core.List.{List, []}
 use native.Mathlib.Omega.{arith}
-use native.Mathlib.Decide.{dec_lt}
-use lib.ListN.{length}
+use lib.ListN.{length, take}
 use lib.Dec.{ltb}
 use borrow.Author.Tests.{lt-ltb, le-ltb, ltb-false}
+use Rattle.std.specs.Prelude.{⊤}
+use Rattle.std.proofs.Common.{Ok, Err}
 use Rattle.program.specs.Program.{Program}
-use Rattle.program.specs.Faults.{Found, fault, sound, faults, reply_of as scanReply}
-use Rattle.program.specs.Reply.{too_soon, follows, bad_name}
+use Rattle.program.specs.Faults.{sound, faults, reply_of as scanReply}
+use Rattle.program.specs.Reply.{too_soon, follows, bad_name, refused, done, number_of, scanned, replied}
+use Rattle.program.specs.declared.reply.Fault.{Fault}
+use Rattle.program.specs.declared.reply.Refusal.TheVariants.{NoRoom}
 use Rattle.program.specs.declared.reply.Reply.{Reply}
-use Rattle.program.proofs.FaultNumbers.{fault_number}
+use Rattle.program.proofs.Checks.{numbered, checked_fault}
 use Rattle.text.specs.Name.{name_bytes}
 use Rattle.text.specs.Room.{in_room}
 use Rattle.text.specs.Put.{Put}
-use Rattle.text.proofs.Puts.{put_length, put_count, put_front, put_over}
-use Rattle.directory.specs.Said.{Accepted}
-use Rattle.cells.specs.TextSoFar.{Read, wrong, right, next}
+use Rattle.text.proofs.Puts.{put_count, put_front, put_over}
+use Rattle.cells.specs.TextSoFar.{Read, wrong, right}
 use Rattle.writer.specs.Names.{is_sound, each_name, names_of, names_reply}
 use Rattle.writer.specs.Write.{text_of, write_of, room_for, answer_of, reply_of, text_in}
-use Rattle.writer.specs.Roomed.{roomed}
-
--- a reply, and a room of zeros
-abbrev pub Refused : List ℕ → List ℕ → ℕ → Reply → Type 0
-Refused words names room r = (r ≡ reply_of (answer_of words names room)) × (in_room room [] ≡ text_in room (answer_of words names room))
-
-module _ (words : List ℕ) (r : Reply) (is : r ≡ scanReply (faults words)) where
-  -- the scan's number is 0 only for a program
-  pub words_accepted : r.number ≡ 0 → Accepted words
-  words_accepted z = by (faults words) refl
-    where
-      by : (f : Found Program) → faults words ≡ f → Accepted words
-      by (sound p) e = (p, e)
-      by (fault number place) e =
-          let n : r.number ≡ number = ap (λ (x : Reply). x.number) (is ∙ ap scanReply e) in
-          absurd (omega (arith, fault_number words number place e))
-
-  -- the words' faults come first
-  pub words_refused : (names : List ℕ) (room : ℕ) → (r.number ≡ 0 → ⊥) → Refused words names room r
-  unfolding write_of
-  words_refused names room nz = by (faults words) refl
-    where
-      by : (f : Found Program) → faults words ≡ f → Refused words names room r
-      by (fault number place) e = rw e (is ∙ ap scanReply e, refl)
-      by (sound p) e = absurd (nz (ap (λ (x : Reply). x.number) (is ∙ ap scanReply e)))
+use Rattle.writer.specs.Left.{Left}
 
 -- the names as they are, or a fault with a number
 abbrev AsLent : List ℕ → Read (List ℕ) → Type 0
@@ -88,34 +66,55 @@ module _ (names : List ℕ) (predicates symbols : ℕ) where
       by (wrong number place) h z = absurd (omega arith)
       by (right ns) h z = ap right h
 
--- of accepted words, the names decide next
-module _ (words names : List ℕ) (room : ℕ) (p : Program) (accepted : faults words ≡ sound p) (r : Reply) where
-  abbrev found : Read (List ℕ)
-  found = names_of names (length p.predicates) (length p.predicates + length p.functions)
-
-  pub names_refused : r ≡ names_reply found → (r.number ≡ 0 → ⊥) → Refused words names room r
-  unfolding write_of
-  names_refused is nz = rw accepted (by found is)
+  -- the fault that a check answers is that of the names
+  pub names_fault : (f : Fault) → scanned (Err f) ≡ names_reply (names_of names predicates symbols) → names_of names predicates symbols ≡ wrong (number_of f.refusal) f.place
+  names_fault f = by (names_of names predicates symbols)
     where
-      by : (o : Read (List ℕ)) → r ≡ names_reply o
-          → (r ≡ reply_of (next (next o (λ ns. right (text_of p ns))) (room_for room)))
-          × (in_room room [] ≡ text_in room (next (next o (λ ns. right (text_of p ns))) (room_for room)))
-      by (wrong number place) e = (e, refl)
-      by (right ns) e = absurd (nz (ap (λ (x : Reply). x.number) e))
+      by : (o : Read (List ℕ)) → scanned (Err f) ≡ names_reply o → o ≡ wrong (number_of f.refusal) f.place
+      by (wrong number place) e = ap₂ wrong (sym (ap (λ (x : Reply). x.number) e)) (sym (ap (λ (x : Reply). x.place) e))
+      by (right ns) e = let n : number_of f.refusal ≡ 0 = ap (λ (x : Reply). x.number) e in absurd (omega (arith, numbered f.refusal))
 
-  -- and then the room
-  pub text_answered : r ≡ names_reply found → r.number ≡ 0 → answer_of words names room ≡ room_for room (text_of p names)
+  -- names that a check passes are sound
+  pub names_passed : (v : ⊤) → scanned (Ok v) ≡ names_reply (names_of names predicates symbols) → (names_reply (names_of names predicates symbols)).number ≡ 0
+  names_passed v e = sym (ap (λ (x : Reply). x.number) e)
+
+-- what decides, and what is in the room then
+module _ (words names : List ℕ) (room : ℕ) (left : List ℕ) where
+  -- the words' faults come first
+  pub words_left : (f : Fault) → scanned (Err f) ≡ scanReply (faults words) → Left (answer_of words names room) (Err f) left
   unfolding write_of
-  text_answered is z =
-      rw (accepted, names_right names (length p.predicates) (length p.predicates + length p.functions) (ap (λ (x : Reply). x.number) (sym is) ∙ z))
+  words_left f is = rw (checked_fault words f is) (refl, refl)
 
--- the room holds the text, or it has no room for it
-pub room_decides : {t before after : List ℕ} {end : ℕ} → Put t before after 0 end → roomed (length after) end after ≡ room_for (length before) t
-room_decides {t} {before} {after} {end} p = rw (put_length p) (by (dec_lt (length before) end))
-  where
-    by : Dec (length before < end) → roomed (length before) end after ≡ room_for (length before) t
-    by (yes h) = rw (lt-ltb (length before) end h, lt-ltb (length before) (length t) (put_over p h))
-    by (no h) =
-        let l : end ≤ length before = omega arith in
-        let n : length t ≤ length before = omega (arith, put_count p l) in
-        rw (le-ltb (length before) end l, le-ltb (length before) (length t) n) (ap right (put_front p l))
+  module _ (p : Program) (accepted : faults words ≡ sound p) where
+    abbrev found : Read (List ℕ)
+    found = names_of names (length p.predicates) (length p.predicates + length p.functions)
+
+    -- of accepted words, the names decide next
+    pub names_left : (f : Fault) → scanned (Err f) ≡ names_reply found → Left (answer_of words names room) (Err f) left
+    unfolding write_of
+    names_left f is = rw (accepted, names_fault names (length p.predicates) (length p.predicates + length p.functions) f is) (refl, refl)
+
+    -- and then the room
+    pub text_answered : (names_reply found).number ≡ 0 → answer_of words names room ≡ room_for room (text_of p names)
+    unfolding write_of
+    text_answered z = rw (accepted, names_right names (length p.predicates) (length p.predicates + length p.functions) z)
+
+-- the room has no room for the text, or it holds it
+module _ {t before after : List ℕ} {end : ℕ} (p : Put t before after 0 end) where
+  pub over_left : length before < end → (place : ℕ) → place ≡ length before → Left (room_for (length before) t) (Err (record { refusal = NoRoom; place = place })) after
+  over_left h place e = rw (lt-ltb (length before) (length t) (put_over p h)) (refl, e)
+
+  pub fits_left : end ≤ length before → Left (room_for (length before) t) (Ok end) after
+  fits_left h =
+      let n : end ≡ length t = omega (arith, put_count p h) in
+      rw (le-ltb (length before) (length t) (omega arith)) (n, put_front p h)
+
+-- what is cleared behind an answer
+module _ (room : ℕ) (left : List ℕ) where
+  pub text_written : (end : ℕ) (a : Read (List ℕ)) → Left a (Ok end) left → (replied (Ok end) ≡ reply_of a) × (in_room room (take end left) ≡ text_in room a)
+  text_written end (wrong number place) h = absurd h
+  text_written end (right text) h = (ap done h.0, ap (in_room room) h.1)
+
+  pub text_refused : (f : Fault) (a : Read (List ℕ)) → Left a (Err f) left → (replied (Err f) ≡ reply_of a) × (in_room room [] ≡ text_in room a)
+  text_refused f (wrong number place) h = (ap₂ refused h.0 h.1, refl)
+  text_refused f (right text) h = absurd h

@@ -21,11 +21,6 @@ use Rattle.writer.specs.Names.{first_of, is_sound, each_name}
 pub name_front : (key : List ℕ) (end : ℕ) → end ≡ 0 + length (up_to 0 (drop 0 key)) → take end key ≡ name_in key
 name_front key end e = let n : end ≡ length (up_to 0 key) = omega arith in rw n (up_to_take 0 key)
 
--- the part of the names that name i is
-pub entry_part : (names : List ℕ) (i : ℕ) → take (i * name_bytes + name_bytes - i * name_bytes) (drop (i * name_bytes) names) ≡ entry names i
-entry_part names i =
-    let n : i * name_bytes + name_bytes - i * name_bytes ≡ name_bytes = omega arith in ap (λ (k : ℕ). take k (drop (i * name_bytes) names)) n
-
 pub first_within : (predicates i : ℕ) → first_of predicates i ≤ i
 first_within predicates i = by (ltb i predicates) refl
   where

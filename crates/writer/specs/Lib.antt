@@ -1,4 +1,4 @@
 -- From an encoded program with names to scenario text.
 pub mod Names
 pub mod Write
-pub mod Roomed
+pub mod Left

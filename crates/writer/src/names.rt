@@ -1,12 +1,13 @@
 // The names of a program, as they are lent: their faults, after all faults in the words.
 ghost use Rattle.std.specs.Prelude.{◌≡◌, ◌+◌, ◌*◌, ◌≤◌, length};
 ghost use Rattle.text.specs.Name.{name_bytes, max_names, entry, Hashed};
+ghost use Rattle.program.specs.Reply.{scanned};
 ghost use Rattle.written_lines.specs.Walked.{NameAt};
 ghost use Rattle.writer.specs.Names.{is_entry, first_of, is_sound, each_name, names_of, names_reply};
 
-use program::reply::{ACCEPTED, BAD_NAME, FOLLOWS, Reply, TOO_SOON};
+use program::reply::{Fault, Refusal};
 use text::cut::find;
-use text::name::{NAME_BYTES, find_name, hash_of, pad, same_bytes};
+use text::name::{NAME_BYTES, find_name, hash_of, name_at, pad, same_bytes};
 use text::token::is_name;
 
 // A name, and nothing but zeros behind it.
@@ -20,16 +21,6 @@ fn is_entry(key: &[u8]) -> bool
     }
     let kept = pad(name);
     same_bytes(&kept, key)
-}
-
-// The 16 bytes of name number i.
-fn name_at(names: &[u8], i: usize) -> &[u8]
-    requires { NameAt names.now i }
-    ensures { result.now ≡ entry names.now i }
-{
-    let at = i * NAME_BYTES;
-    let end = at + NAME_BYTES;
-    &names[at..end]
 }
 
 // The first name of the kind that name i is of.
@@ -56,50 +47,41 @@ fn is_sound(names: &[u8], hashes: &[u32], predicates: usize, i: usize) -> bool
 }
 
 // "then 12 at the name's byte index"
-fn each_name(names: &[u8], predicates: usize, symbols: usize) -> Reply
+fn each_name(names: &[u8], predicates: usize, symbols: usize) -> Result<(), Fault>
     requires { (symbols ≤ max_names) × (length names.now ≡ symbols * name_bytes) }
-    ensures { result ≡ names_reply (each_name names.now predicates 0 symbols) }
+    ensures { scanned result ≡ names_reply (each_name names.now predicates 0 symbols) }
 {
     let mut hashes = [0u32; 128];
-    let mut i = 0;
-    while i < symbols {
+    for i in 0..symbols {
         if !is_sound(names, &hashes, predicates, i) {
-            return Reply {
-                number: BAD_NAME,
+            return Err(Fault {
+                refusal: Refusal::BadName,
                 place: i * NAME_BYTES,
-                count: 0,
-            };
+            });
         }
         hashes[i] = hash_of(name_at(names, i));
-        i += 1;
     }
-    Reply {
-        number: ACCEPTED,
-        place: 0,
-        count: 0,
-    }
+    Ok(())
 }
 
 // "shorter than 16 bytes a symbol is 1 at their length, longer is 7 at the first byte over, then 12 at the name's byte index"
-pub fn names_reply(names: &[u8], predicates: usize, functions: usize) -> Reply
+pub fn check_names(names: &[u8], predicates: usize, functions: usize) -> Result<(), Fault>
     requires { predicates + functions ≤ max_names }
-    ensures { result ≡ names_reply (names_of names.now predicates (predicates + functions)) }
+    ensures { scanned result ≡ names_reply (names_of names.now predicates (predicates + functions)) }
 {
     let symbols = predicates + functions;
     let size = symbols * NAME_BYTES;
     if names.len() < size {
-        return Reply {
-            number: TOO_SOON,
+        return Err(Fault {
+            refusal: Refusal::TooSoon,
             place: names.len(),
-            count: 0,
-        };
+        });
     }
     if size < names.len() {
-        return Reply {
-            number: FOLLOWS,
+        return Err(Fault {
+            refusal: Refusal::Follows,
             place: size,
-            count: 0,
-        };
+        });
     }
     each_name(names, predicates, symbols)
 }

@@ -3,5 +3,6 @@
 
 pub mod atoms;
 pub mod lines;
+pub mod symbols;
 mod tokens;
 pub mod walked;

@@ -10,13 +10,14 @@ ghost use Rattle.text.specs.Put.{Put};
 ghost use Rattle.text_lines.specs.Keyword.{clause, query};
 ghost use Rattle.written_lines.specs.Tokens.{symbol_token, atom_tokens, atoms_tokens, line};
 ghost use Rattle.written_lines.specs.Lines.{declarations, clause_lines};
-ghost use Rattle.written_lines.specs.Walked.{NameAt, Named, Written};
+ghost use Rattle.written_lines.specs.Walked.{NameAt, Written};
 
 use crate::atoms::{put_atom, put_atoms};
+use crate::symbols::Symbols;
 use crate::tokens::put_symbol;
 use crate::walked::Walked;
+use directory::encoded::Declared;
 use directory::places::atom_cells;
-use terms::walk::wide;
 use text::cut::{LINE_FEED, TAB};
 use text::put::{put_byte, put_bytes, put_number};
 
@@ -52,87 +53,67 @@ pub fn put_declarations(
     ensures { Put (declarations keyword.now names.now first arities.now) out.old out.new from result }
 {
     let mut end = from;
-    let mut i = 0;
-    while i < arities.len() {
-        end = put_declaration(out, end, keyword, names, first + i, arities[i]);
-        i += 1;
+    for (i, arity) in arities.iter().enumerate() {
+        end = put_declaration(out, end, keyword, names, first + i, *arity);
     }
     end
 }
 
 // The clause at a place of the words: "a body length m (0 to 16), the head atom, m body atoms"
-fn put_clause(
-    out: &mut [u8],
-    from: usize,
-    words: &[u16],
-    at: usize,
-    predicates: &[u16],
-    functions: &[u16],
-    names: &[u8],
-) -> Walked
-    requires { (ClauseFrom words.now at predicates.now functions.now) × (Named names.now (length predicates.now) (length functions.now)) }
-    ensures { (a : ClauseFrom words.now at predicates.now functions.now) → Written (line clause (atoms_tokens names.now (length predicates.now) (a.clause.head ∷ a.clause.body))) a.rest words.now out.old out.new from result }
+fn put_clause(out: &mut [u8], words: &[u16], from: Walked, symbols: &Symbols<'_>) -> Walked
+    requires { ClauseFrom words.now from.at symbols.now.predicates.now symbols.now.functions.now }
+    ensures { (a : ClauseFrom words.now from.at symbols.now.predicates.now symbols.now.functions.now)
+        → Written (line clause (atoms_tokens symbols.now.names.now (length symbols.now.predicates.now) (a.clause.head ∷ a.clause.body))) a.rest words.now out.old out.new from.end result }
 {
-    let count = wide(words[at]) + 1;
-    let head = at + 1;
-    let word = put_bytes(out, from, b"clause");
-    let walked = put_atoms(out, word, words, head, count, predicates, functions, names);
-    let end = put_byte(out, walked.end, LINE_FEED);
-    Walked { at: walked.at, end }
+    let count = usize::from(words[from.at]) + 1;
+    let head = Walked {
+        at: from.at + 1,
+        end: put_bytes(out, from.end, b"clause"),
+    };
+    let atoms = put_atoms(out, words, head, count, symbols);
+    Walked {
+        at: atoms.at,
+        end: put_byte(out, atoms.end, LINE_FEED),
+    }
 }
 
 // So many clauses, one after another.
 pub fn put_clauses(
     out: &mut [u8],
-    from: usize,
     words: &[u16],
-    start: usize,
+    from: Walked,
     count: usize,
-    predicates: &[u16],
-    functions: &[u16],
-    names: &[u8],
+    symbols: &Symbols<'_>,
 ) -> Walked
-    requires { (ClausesFrom words.now start predicates.now functions.now count) × (Named names.now (length predicates.now) (length functions.now)) × (start ≤ length words.now) }
-    ensures { (a : ClausesFrom words.now start predicates.now functions.now count) → Written (clause_lines names.now (length predicates.now) a.clauses) a.rest words.now out.old out.new from result }
+    requires { (ClausesFrom words.now from.at symbols.now.predicates.now symbols.now.functions.now count) × (from.at ≤ length words.now) }
+    ensures { (a : ClausesFrom words.now from.at symbols.now.predicates.now symbols.now.functions.now count)
+        → Written (clause_lines symbols.now.names.now (length symbols.now.predicates.now) a.clauses) a.rest words.now out.old out.new from.end result }
 {
-    let mut end = from;
-    let mut at = start;
-    let mut i = 0;
-    while i < count {
-        let walked = put_clause(out, end, words, at, predicates, functions, names);
-        end = walked.end;
-        at = walked.at;
-        i += 1;
+    let mut walked = from;
+    for _ in 0..count {
+        walked = put_clause(out, words, walked, symbols);
     }
-    Walked { at, end }
+    walked
 }
 
 // The goal at a place of the words: "one atom, its variable count k, then k modes"
-pub fn put_query(
-    out: &mut [u8],
-    from: usize,
-    words: &[u16],
-    at: usize,
-    predicates: &[u16],
-    functions: &[u16],
-    names: &[u8],
-) -> usize
-    requires { (GoalFrom words.now at predicates.now functions.now) × (Named names.now (length predicates.now) (length functions.now)) × (length words.now ≤ max_words) }
-    ensures { (a : GoalFrom words.now at predicates.now functions.now) → Put (line query (atom_tokens names.now (length predicates.now) (modes_of (after 0 a.goal) a.grounded) (enc a.goal))) out.old out.new from result }
+pub fn put_query(out: &mut [u8], words: &[u16], from: Walked, symbols: &Symbols<'_>) -> usize
+    requires { (GoalFrom words.now from.at symbols.now.predicates.now symbols.now.functions.now) × (length words.now ≤ max_words) }
+    ensures { (a : GoalFrom words.now from.at symbols.now.predicates.now symbols.now.functions.now)
+        → Put (line query (atom_tokens symbols.now.names.now (length symbols.now.predicates.now) (modes_of (after 0 a.goal) a.grounded) (enc a.goal))) out.old out.new from.end result }
 {
-    let variables = at + atom_cells(words, at, predicates, functions);
-    let first = variables + 1;
-    let last = first + wide(words[variables]);
-    let word = put_bytes(out, from, b"query");
-    let walked = put_atom(
-        out,
-        word,
+    let declared = Declared {
         words,
-        at,
-        predicates,
-        functions,
-        names,
-        &words[first..last],
-    );
+        predicates: symbols.predicates,
+        functions: symbols.functions,
+    };
+    let variables = from.at + atom_cells(&declared, from.at);
+    let first = variables + 1;
+    let last = first + usize::from(words[variables]);
+    let atom = Walked {
+        at: from.at,
+        end: put_bytes(out, from.end, b"query"),
+    };
+    let walked = put_atom(out, words, atom, symbols, &words[first..last]);
     put_byte(out, walked.end, LINE_FEED)
 }

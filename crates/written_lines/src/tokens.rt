@@ -1,5 +1,5 @@
 // The tokens of a clause or query line, each behind a tab.
-ghost use Rattle.std.specs.Prelude.{◌≡◌, cond, ◌∷◌, ◌+◌, ◌<◌, get_or, eqb};
+ghost use Rattle.std.specs.Prelude.{◌≡◌, cond, ◌∷◌, ◌<◌, length, get_or, eqb};
 ghost use Rattle.terms.specs.Cells.{first_variable};
 ghost use Rattle.program.specs.Limits.{ground_mode};
 ghost use Rattle.text.specs.Line.{tab};
@@ -8,9 +8,9 @@ ghost use Rattle.text.specs.Put.{Put};
 ghost use Rattle.written_lines.specs.Tokens.{symbol_token, variable_token, argument_token};
 ghost use Rattle.written_lines.specs.Walked.{NameAt};
 
+use crate::symbols::Symbols;
 use program::limits::GROUND_MODE;
-use terms::walk::{FIRST_VARIABLE, wide};
-use text::bytes::{UPPER_G, UPPER_V};
+use terms::walk::FIRST_VARIABLE;
 use text::cut::TAB;
 use text::put::{put_byte, put_name, put_number};
 
@@ -23,23 +23,20 @@ pub fn put_symbol(out: &mut [u8], end: usize, names: &[u8], n: usize) -> usize
 }
 
 // "in the query `G` instead of `V` marks ground"
-fn sign_of(modes: &[u16], v: usize) -> u8
+fn sign_of(modes: &[u16], v: u16) -> u8
     ensures { result ≡ cond (eqb (get_or modes.now v 0) ground_mode) upper_g upper_v }
 {
-    if modes.len() <= v {
-        return UPPER_V;
+    match modes.get(usize::from(v)) {
+        Some(mode) if usize::from(*mode) == GROUND_MODE => b'G',
+        _ => b'V',
     }
-    if wide(modes[v]) == GROUND_MODE {
-        return UPPER_G;
-    }
-    UPPER_V
 }
 
 fn put_variable(out: &mut [u8], end: usize, modes: &[u16], v: u16) -> usize
     ensures { Put (tab ∷ variable_token modes.now v) out.old out.new end result }
 {
     let from = put_byte(out, end, TAB);
-    let behind = put_byte(out, from, sign_of(modes, wide(v)));
+    let behind = put_byte(out, from, sign_of(modes, v));
     put_number(out, behind, v)
 }
 
@@ -47,16 +44,16 @@ fn put_variable(out: &mut [u8], end: usize, modes: &[u16], v: u16) -> usize
 pub fn put_argument(
     out: &mut [u8],
     end: usize,
-    names: &[u8],
-    predicates: usize,
+    symbols: &Symbols<'_>,
     modes: &[u16],
     cell: u16,
 ) -> usize
-    requires { cell < first_variable → NameAt names.now (predicates + cell) }
-    ensures { Put (tab ∷ argument_token names.now predicates modes.now cell) out.old out.new end result }
+    requires { cell < first_variable → cell < length symbols.now.functions.now }
+    ensures { Put (tab ∷ argument_token symbols.now.names.now (length symbols.now.predicates.now) modes.now cell) out.old out.new end result }
 {
     if cell < FIRST_VARIABLE {
-        return put_symbol(out, end, names, predicates + wide(cell));
+        let n = symbols.predicates.len() + usize::from(cell);
+        return put_symbol(out, end, symbols.names, n);
     }
     put_variable(out, end, modes, cell - FIRST_VARIABLE)
 }

@@ -1,7 +1,7 @@
 // A walk that writes as it goes.
 
 // The place in the words behind what was read, and the place in the text behind what was written.
-#[derive(Drop)]
+#[derive(Clone, Copy)]
 pub struct Walked {
     pub at: usize,
     pub end: usize,

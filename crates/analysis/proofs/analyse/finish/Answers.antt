@@ -27,6 +27,6 @@ returns c = λ w.
       many = many;
       words =
           zeros_behind (table_words packed.entries) _ _ _ _ (table_words_length packed.entries ∙ ap (λ (x : ℕ). row_size * x) many) (c.unpack.ensures packed)
-          (omega (arith, size, w.complete.fits)) c.zero.ensures
+          (omega (arith, size, w.complete.fits)) (c.fill.ensures.after (λ y e. e))
           ∙ ap (λ (x : ℕ). table_words packed.entries ++ replicate (x - row_size * c.args.rows) 0) size;
     }

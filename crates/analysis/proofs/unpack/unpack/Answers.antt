@@ -1,20 +1,13 @@
--- `unpack` meets its contract: the rows passed are entries. The measure is how many are left. Assumes nothing.
+-- `unpack` meets its contract: the rows passed are entries. Assumes nothing.
 use native.Mathlib.Omega.{arith}
-use mathlib.Core.Path.{◌∙◌}
 use Rattle.analysis.proofs.Unpacking.{row_stands, row_passed, passed_all}
 use Rattle.analysis.proofs.unpack.unpack.Goals as goal
 
 pub unpack_row-requires : goal.unpack_row-requires
-unpack_row-requires c = let inv = c.loop-r.invariant in
-    (row_stands _ _ _ _ c.requires c.loop-r.r c.loop-r-test.true _ (inv.2 c.requires), omega (arith, c.loop-r-test.true, c.requires.fits, inv.1))
+unpack_row-requires c = (row_stands _ _ _ _ c.requires c.loop-r.r c.loop-r-test.true _ (c.loop-r.invariant c.requires), omega (arith, c.requires.fits))
 
 pub loop-r-preserved : goal.loop-r-preserved
-loop-r-preserved c = let inv = c.loop-r.invariant in (
-  omega (arith, c.loop-r-test.true),
-  c.unpack_row.auto.table ∙ inv.1,
-  λ w. row_passed _ _ _ _ w c.loop-r.r c.loop-r-test.true _ (inv.2 w) _ (c.unpack_row.ensures (row_stands _ _ _ _ w c.loop-r.r c.loop-r-test.true _ (inv.2 w))),
-)
+loop-r-preserved c = λ w. row_passed _ _ _ _ w c.loop-r.r c.loop-r-test.true _ (c.loop-r.invariant w) _ (c.unpack_row.ensures (row_stands _ _ _ _ w c.loop-r.r c.loop-r-test.true _ (c.loop-r.invariant w)))
 
 pub returns : goal.returns
-returns c = let inv = c.loop-r.invariant in
-    λ w. passed_all _ _ _ _ w _ _ inv.0 c.loop-r-test.false (inv.2 w)
+returns c = λ w. passed_all _ _ _ _ w _ _ (omega arith) c.loop-r-test.false (c.loop-r.invariant w)

@@ -1,12 +1,10 @@
 -- `mark_shape` meets its contract. The invariant: the marks of the call rows from the link on are in the set. The measure is the link. Assumes nothing.
-use mathlib.Core.Path.{◌≡◌}
-use lib.ListN.{length}
 use Rattle.calling.specs.Calls.{MarkAsked}
 use Rattle.calling.proofs.MarkWalks.{Marking}
 use Rattle.calling.proofs.calls.mark_shape.Given as goal
 
 abbrev pub invariant-loop-link : goal.invariant-loop-link
-invariant-loop-link l = (length l.found ≡ length l.initial.found) × ((a : MarkAsked l.table l.sets l.newest l.here l.there l.since) → Marking a l.initial.found l.link l.found)
+invariant-loop-link l = (a : MarkAsked l.table l.calls.sets.now l.calls.newest l.calls.here l.calls.there l.since) → Marking a l.initial.found l.link l.found
 
 abbrev pub decreases-loop-link : goal.decreases-loop-link
 decreases-loop-link l = l.link

@@ -15,7 +15,7 @@ bounds-heads-s c = shape_slot c.requires.0.shape
 pub returns-then-newest-since : goal.returns-then-newest-since
 returns-then-newest-since c = let (_, size, notes) = c.requires in (
   λ a.
-      let none = opened_old a.shape _ c.wide-newest.ensures.0 c.if-newest-since.true in
+      let none = opened_old a.shape _ c.from-newest.ensures c.if-newest-since.true in
       (marked_none _ size none, λ N o. absurd (none N o)),
   notes,
 )
@@ -34,26 +34,26 @@ returns-then-not-meet_noting c = let (met, notes) = c.meet_noting.ensures in (
 pub overflow_add-s : goal.overflow_add-s
 overflow_add-s c = omega (arith, (shape_in_dir c.requires.0.shape).0)
 
-pub offset_bounds-dir-s : goal.offset_bounds-dir-s
-offset_bounds-dir-s c = omega (arith, (shape_in_dir c.requires.0.shape).0)
+pub offset_bounds-program-s : goal.offset_bounds-program-s
+offset_bounds-program-s c = omega (arith, (shape_in_dir c.requires.0.shape).0)
 
-pub bounds-dir-s : goal.bounds-dir-s
-bounds-dir-s c = let few = shape_in_dir c.requires.0.shape in omega (arith, few.0, few.1)
+pub bounds-program-s : goal.bounds-program-s
+bounds-program-s c = let few = shape_in_dir c.requires.0.shape in omega (arith, few.0, few.1)
 
 pub mark_shape-requires : goal.mark_shape-requires
 mark_shape-requires c = let (asked, size, _) = c.requires in (
-  mark_calls asked _ _ _ c.wide-newest.ensures.0
+  mark_calls asked _ _ _ c.from-newest.ensures
       (rw (not-false c.meet_noting.result c.if-not-meet_noting.false-raw) at (c.meet_noting.ensures.0 (shape_meeting asked.shape)))
-      c.first_variables-here.ensures.0 (rw c.wide.ensures.0 at c.first_variables-here.ensures.1),
+      c.first_variables-here.ensures.0 (rw c.from.ensures at c.first_variables-here.ensures.1),
   size,
 )
 
 pub returns : goal.returns
 returns c = let (met, notes) = c.meet_noting.ensures in (
   λ a. (
-    c.mark_shape.ensures (mark_calls a _ _ _ c.wide-newest.ensures.0
+    c.mark_shape.ensures (mark_calls a _ _ _ c.from-newest.ensures
         (rw (not-false c.meet_noting.result c.if-not-meet_noting.false-raw) at (met (shape_meeting a.shape)))
-        c.first_variables-here.ensures.0 (rw c.wide.ensures.0 at c.first_variables-here.ensures.1)),
+        c.first_variables-here.ensures.0 (rw c.from.ensures at c.first_variables-here.ensures.1)),
     λ N o. tt,
   ),
   notes,

@@ -5,7 +5,7 @@ use Rattle.cells.proofs.Rows.{Turning}
 use Rattle.cells.proofs.cells.read_cells.Given as goal
 
 abbrev pub invariant-loop-at : goal.invariant-loop-at
-invariant-loop-at l = Turning l.line l.from l.base l.query l.c l.names l.hashes l.arities l.initial.words l.initial.modes l.count l.words l.modes l.p l.at
+invariant-loop-at l = Turning l.line.bytes.now l.from l.line.place l.query l.c l.symbols l.initial.words l.initial.modes l.count l.words l.modes l.p l.at
 
 abbrev pub decreases-loop-at : goal.decreases-loop-at
-decreases-loop-at l = length l.line - l.at
+decreases-loop-at l = length l.line.bytes.now - l.at

@@ -1,28 +1,23 @@
--- `clause_of` meets its contract: no clause passed is behind the body atom's. The measure is how many clauses there may be yet. Assumes nothing.
-use native.Mathlib.Omega.{arith}
-use Rattle.concerns.proofs.BodyClauses.{clause_later, clause_found, clause_few}
+-- `clause_of` meets its contract: the first clause that ends behind the body atom is its own. Assumes nothing.
+use Rattle.std.proofs.Common.{rules, tests, ◌≡◌, ℕ, Some}
+use mathlib.Core.Path.{refl, sym, ◌∙◌}
+use lib.Dec.{ltb}
+use Rattle.std.proofs.lemmas.Iterator.{YieldsList-from_slice}
+use Rattle.std.proofs.lemmas.Iterator.Search.{position_from_yields_List}
+use Rattle.concerns.proofs.BodyClauses.{clause_there}
 use Rattle.concerns.proofs.bodies.clause_of.Goals as goal
 
-pub overflow_add-k : goal.overflow_add-k
-overflow_add-k c = let w = c.requires in let f = clause_few w.setting _ w.body in omega (arith, f.0, f.1, c.loop-k.invariant w)
+same : {a b : ℕ} → Some a ≡ Some b → a ≡ b
+same e = cc
 
-pub overflow_add-k-in-loop-k : goal.overflow_add-k-in-loop-k
-overflow_add-k-in-loop-k c = let w = c.requires in let f = clause_few w.setting _ w.body in omega (arith, f.0, f.1, c.loop-k.invariant w)
-
-pub offset_bounds-dir-k : goal.offset_bounds-dir-k
-offset_bounds-dir-k c = let w = c.requires in let f = clause_few w.setting _ w.body in omega (arith, f.0, f.1, c.loop-k.invariant w)
-
-pub bounds-dir-k : goal.bounds-dir-k
-bounds-dir-k c = let w = c.requires in let f = clause_few w.setting _ w.body in omega (arith, f.0, f.1, c.loop-k.invariant w)
-
-pub overflow_add-k-in-loop-k-2 : goal.overflow_add-k-in-loop-k-2
-overflow_add-k-in-loop-k-2 c = let w = c.requires in let f = clause_few w.setting _ w.body in omega (arith, f.0, f.1, c.loop-k.invariant w)
-
-pub loop-k-smaller : goal.loop-k-smaller
-loop-k-smaller c = let w = c.requires in let f = clause_few w.setting _ w.body in omega (arith, f.0, f.1, c.loop-k.invariant w)
-
-pub loop-k-preserved : goal.loop-k-preserved
-loop-k-preserved c = λ w. clause_later w.setting _ w.body c.loop-k.k (c.loop-k.invariant w) (rw c.wide.ensures.0 at c.loop-k-test.true)
+pub unwrap-requires : goal.unwrap-requires
+unwrap-requires c =
+    let there = clause_there c.requires.setting _ c.requires.body _ _ c.iter.ensures.rest
+    (position_from_yields_List (λ behind. ltb c.args.j behind) _ _ _ c.position.ensures.ran (YieldsList-from_slice _ refl) (λ x b q k. search (rules, tests))) in
+    rw there refl
 
 pub returns : goal.returns
-returns c = λ w. clause_found w.setting _ w.body c.loop-k.k (c.loop-k.invariant w) (rw c.wide.ensures.0 at c.loop-k-test.false)
+returns c = λ w.
+    let there : c.position.result ≡ Some w.body.k = clause_there w.setting _ w.body _ _ c.iter.ensures.rest
+    (position_from_yields_List (λ behind. ltb c.args.j behind) _ _ _ c.position.ensures.ran (YieldsList-from_slice _ refl) (λ x b q k. search (rules, tests))) in
+    same (sym c.unwrap.ensures ∙ there)

@@ -1,7 +1,6 @@
--- `enter_heads` meets its contract: the clauses passed are entered. The measure is how many are left. Assumes nothing.
-use Prim.Native.Nat.{◌-◌, ◌≤◌}
+-- `enter_heads` meets its contract: the clauses passed are entered. Assumes nothing.
 use mathlib.Core.Path.{◌≡◌}
-use lib.ListN.{length, get_or}
+use lib.ListN.{get_or}
 use Rattle.program.specs.Program.{Program}
 use Rattle.directory.specs.Layout.{clause_count}
 use Rattle.steps.specs.Situation.{Setting}
@@ -9,7 +8,4 @@ use Rattle.concerns.proofs.ClauseIndex.{HeadsBelow}
 use Rattle.concerns.proofs.index.enter_heads.Given as goal
 
 abbrev pub invariant-loop-k : goal.invariant-loop-k
-invariant-loop-k l = (l.k ≤ l.clauses) × (l.clauses ≡ get_or l.dir clause_count 0) × (length l.set ≡ length l.initial.set) × ((p : Program) → Setting l.words l.dir p → HeadsBelow p l.set l.k)
-
-abbrev pub decreases-loop-k : goal.decreases-loop-k
-decreases-loop-k l = l.clauses - l.k
+invariant-loop-k l = (l.clauses ≡ get_or l.program.dir.now clause_count 0) × ((p : Program) → Setting l.program.words.now l.program.dir.now p → HeadsBelow p l.set l.k)

@@ -1,8 +1,15 @@
--- `declarations::symbol::put_name` meets its contract. The loop's invariant: the name's bytes so far stand behind the others. Assumes nothing.
+-- `declarations::symbol::put_name` meets its contract. Assumes nothing.
+use Prim.Native.Nat.{◌+◌, ◌-◌}
+use mathlib.Core.Path.{◌≡◌, ap}
+use mathlib.Core.List.{List}
 use native.Mathlib.Omega.{arith}
-use lib.ListN.{length-set}
-use Rattle.cells.proofs.HeldSymbols.{byte_behind}
+use lib.ListN.{length}
+use Rattle.text.proofs.Rooms.{length_in_room}
+use Rattle.declarations.proofs.Symbols.{written_behind}
 use Rattle.declarations.proofs.symbol.put_name.Goals as goal
 
-pub loop-i-preserved : goal.loop-i-preserved
-loop-i-preserved c = (omega arith, simp length-set c.loop-i.invariant.1, λ room ns e f. byte_behind room ns c.args.key.now c.loop-i.names c.args.at c.loop-i.i (omega arith) f (c.loop-i.invariant.2 room ns e f))
+pub returns : goal.returns
+returns c = let a = c.args in
+    λ room ns e f. let count : a.at + 16 - a.at ≡ length a.key.now = omega arith in
+    let size = ap (λ (l : List _). length l) e in
+    rw (count, c.copy_from_slice.ensures.after, e, f) (written_behind room ns a.key.now (omega (arith, size, length_in_room room ns)))

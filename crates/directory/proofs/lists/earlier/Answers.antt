@@ -1,10 +1,8 @@
--- `earlier` meets its contract. The invariant: the places before i have their lists, and the mask the variables before i. The measure is what is left of them.
--- Assumes nothing.
+-- `earlier` meets its contract. The invariant: the places before j have their lists, and the mask the variables before j. Assumes nothing.
 use Prim.Native.Nat.{◌+◌, ◌-◌, ◌<◌}
 use native.Mathlib.Omega.{arith}
 use mathlib.Core.Path.{◌≡◌, refl, ◌∙◌}
 use lib.ListN.{length}
-use Rattle.program.proofs.Nths.{below_nth}
 use Rattle.directory.specs.Layout.{body_list}
 use Rattle.directory.specs.Said.{said}
 use Rattle.directory.specs.Lists.{first_of}
@@ -20,44 +18,49 @@ bounds-dir-k c = omega (arith, c.requires.2, (said_within _ c.requires.0).clause
 pub bounds-dir-next : goal.bounds-dir-next
 bounds-dir-next c = omega (arith, c.requires.2, (said_within _ c.requires.0).clauses_most, c.requires.1.size)
 
-pub overflow_sub-m : goal.overflow_sub-m
-overflow_sub-m c = let W = c.args.words.now in let a = c.requires.0 in let k = c.args.k in omega (arith, c.wide-first.ensures.0, c.wide.ensures.0, first_is W a _ c.requires.1 k c.requires.2, first_next_is W a _ c.requires.1 k c.requires.2, first_next (said W) (below_nth (said W).clauses k c.requires.2).1)
-
-pub loop-i-init : goal.loop-i-init
-loop-i-init c = let W = c.args.words.now in let a = c.requires.0 in let k = c.args.k in
-    let e : c.wide-first.result ≡ first_of (said W) k = c.wide-first.ensures.0 ∙ first_is W a _ c.requires.1 k c.requires.2 in
-    let e' : c.wide.result ≡ first_of (said W) (k + 1) = c.wide.ensures.0 ∙ first_next_is W a _ c.requires.1 k c.requires.2 in (
+pub loop-j-init : goal.loop-j-init
+loop-j-init c = let W = c.args.words.now in let a = c.requires.0 in let k = c.args.k in
+    let first = c.from-first.result in
+    let end = c.from-end.result in
+    let e : first ≡ first_of (said W) k = c.from-first.ensures ∙ first_is W a _ c.requires.1 k c.requires.2 in
+    let e' : end ≡ first_of (said W) (k + 1) = c.from-end.ensures ∙ first_next_is W a _ c.requires.1 k c.requires.2 in
+    let z : first - first ≡ 0 = omega arith in (
       e,
-      omega (arith, first_within (said W) (k + 1) (omega (arith, c.requires.2)), first_next (said W) (below_nth (said W).clauses k c.requires.2).1),
+      omega (arith, first_within (said W) (k + 1) (omega (arith, c.requires.2))),
       c.requires.1,
-      (λ d q.
-          let m : c.wide.result - c.wide-first.result ≡ length d.body = omega (arith, first_next (said W) q) in
-          (m, record { rest = c.requires.3 d q; listed = λ y l. absurd (omega arith) }, head_alone d.head _ c.head_variables-mask.result refl (c.head_variables-mask.ensures d q))),
-      omega arith,
+      λ d q. (
+        omega (arith, first_next (said W) q),
+        rw z (record { rest = c.requires.3 d q; listed = λ y l. absurd (omega arith) }),
+        rw z (head_alone d.head _ c.head_variables-mask.result refl (c.head_variables-mask.ensures d q)),
+      ),
     )
 
 pub bounds-dir-j : goal.bounds-dir-j
-bounds-dir-j c = omega (arith, c.loop-i.invariant.1, c.loop-i.invariant.2.size, c.loop-i-test.true, bodies_at_most _ c.requires.0)
+bounds-dir-j c = omega (arith, c.loop-j.invariant.1, c.loop-j.invariant.2.size, c.loop-j-test.true, bodies_at_most _ c.requires.0)
 
-pub bounds-dir-j-in-loop-i : goal.bounds-dir-j-in-loop-i
-bounds-dir-j-in-loop-i c = omega (arith, c.loop-i.invariant.1, c.loop-i.invariant.2.size, c.loop-i-test.true, bodies_at_most _ c.requires.0)
+pub bounds-dir-j-in-loop-j : goal.bounds-dir-j-in-loop-j
+bounds-dir-j-in-loop-j c = omega (arith, c.loop-j.invariant.1, c.loop-j.invariant.2.size, c.loop-j-test.true, bodies_at_most _ c.requires.0)
 
 pub body_variables-mask-requires : goal.body_variables-mask-requires
-body_variables-mask-requires c = (c.requires.0, placed_set _ c.requires.0 _ c.loop-i.invariant.2 _ _ (omega arith), omega (arith, c.loop-i.invariant.1, c.loop-i-test.true))
+body_variables-mask-requires c = (c.requires.0, placed_set _ c.requires.0 _ c.loop-j.invariant.2 _ _ (omega arith), omega (arith, c.loop-j.invariant.1, c.loop-j-test.true))
 
-pub loop-i-preserved : goal.loop-i-preserved
-loop-i-preserved c = let W = c.args.words.now in let inv = c.loop-i.invariant in let i = c.loop-i.i in let k = c.args.k in let D = c.loop-i.dir in
-    let less = c.loop-i-test.true in (
+pub loop-j-preserved : goal.loop-j-preserved
+loop-j-preserved c = let W = c.args.words.now in let inv = c.loop-j.invariant in let k = c.args.k in let D = c.loop-j.dir in
+    let first = c.from-first.result in
+    let j = c.loop-j.j in
+    let i = j - first in
+    let less = c.loop-j-test.true in
+    let s : j + 1 - first ≡ i + 1 = omega (arith, c.loop-j.auto.j) in (
       inv.0,
       inv.1,
       placed_set W c.requires.0 D inv.2 _ _ (omega arith),
-      (λ d q.
+      λ d q.
           let w = inv.3 d q in
-          let few : i < length d.body = omega (arith, w.0, less) in
-          let room : body_list + (c.wide-first.result + i) < length D = omega (arith, inv.1, inv.2.size, less, bodies_at_most _ c.requires.0) in
-          (w.0, listed_step (said W) k d q _ D i w.1 few _ inv.0 room c.loop-i.mask w.2, before_step (said W) k d q _ D i w.1 few _ inv.0 room c.loop-i.mask w.2 c.body_variables-mask.result c.body_variables-mask.ensures)),
-      omega (arith, less),
+          let e : j ≡ first_of (said W) k + i = omega (arith, inv.0, c.loop-j.auto.j) in
+          let few : i < length d.body = omega (arith, w.0, less, c.loop-j.auto.j) in
+          let room : body_list + j < length D = omega (arith, inv.1, inv.2.size, less, bodies_at_most _ c.requires.0) in (
+            w.0,
+            rw s (listed_step (said W) k d q _ D j i e few room c.loop-j.mask w.1 w.2),
+            rw s (before_step (said W) k d q _ D j i e few room c.loop-j.mask w.1 w.2 c.body_variables-mask.result c.body_variables-mask.ensures),
+          ),
     )
-
-pub returns : goal.returns
-returns c = λ d q. let w = c.loop-i.invariant.3 d q in let e : c.loop-i.i ≡ length d.body = omega (arith, w.0, c.loop-i.invariant.4, c.loop-i-test.false) in rw e at w.1

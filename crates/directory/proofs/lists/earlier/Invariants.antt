@@ -1,5 +1,4 @@
--- `earlier` meets its contract. The invariant: the places before i have their lists, and the mask the variables before i. The measure is what is left of them.
--- Assumes nothing.
+-- `earlier` meets its contract. The invariant: the places before j have their lists, and the mask the variables before j. Assumes nothing.
 use Prim.Native.Nat.{◌+◌, ◌-◌, ◌≤◌}
 use mathlib.Core.Path.{◌≡◌}
 use mathlib.Core.List.{◌∷◌}
@@ -12,8 +11,5 @@ use Rattle.directory.specs.Walked.{Placed}
 use Rattle.directory.specs.Lists.{first_of, ListedFrom}
 use Rattle.directory.proofs.lists.earlier.Given as goal
 
-abbrev pub invariant-loop-i : goal.invariant-loop-i
-invariant-loop-i l = (l.first ≡ first_of (said l.words) l.k) × (l.first + l.m ≤ length (bodies (said l.words).clauses)) × Placed l.words (said l.words) l.dir × ((d : Clause) → Nth (said l.words).clauses l.k d → (l.m ≡ length d.body) × ListedFrom (said l.words) l.k d l.initial.dir l.dir l.i × Marks (λ v. In v (d.head ∷ take l.i d.body)) l.mask) × (l.i ≤ l.m)
-
-abbrev pub decreases-loop-i : goal.decreases-loop-i
-decreases-loop-i l = l.m - l.i
+abbrev pub invariant-loop-j : goal.invariant-loop-j
+invariant-loop-j l = (l.first ≡ first_of (said l.words) l.k) × (l.end ≤ length (bodies (said l.words).clauses)) × Placed l.words (said l.words) l.dir × ((d : Clause) → Nth (said l.words).clauses l.k d → (l.end ≡ l.first + length d.body) × ListedFrom (said l.words) l.k d l.initial.dir l.dir (l.j - l.first) × Marks (λ v. In v (d.head ∷ take (l.j - l.first) d.body)) l.mask)

@@ -1,6 +1,5 @@
--- `later` meets its contract. The invariant: the places from i on have their variables, and the mask those from i on. The measure is i.
--- Assumes nothing.
-use Prim.Native.Nat.{◌+◌, ◌≤◌}
+-- `later` meets its contract. The invariant: the places from j on have their variables, and the mask those from j on. Assumes nothing.
+use Prim.Native.Nat.{◌-◌, ◌≤◌}
 use mathlib.Core.Path.{◌≡◌}
 use mathlib.Core.List.{◌∷◌}
 use lib.ListN.{length, drop}
@@ -12,8 +11,5 @@ use Rattle.directory.specs.Walked.{Placed}
 use Rattle.directory.specs.Lists.{first_of, Later}
 use Rattle.directory.proofs.lists.later.Given as goal
 
-abbrev pub invariant-loop-i : goal.invariant-loop-i
-invariant-loop-i l = (l.first ≡ first_of (said l.words) l.k) × (l.first + l.i ≤ length (bodies (said l.words).clauses)) × Placed l.words (said l.words) l.dir × ((d : Clause) → Nth (said l.words).clauses l.k d → (l.i ≤ length d.body) × Later (said l.words) l.k d l.initial.dir l.dir l.i × Marks (λ v. In v (d.head ∷ drop l.i d.body)) l.mask)
-
-abbrev pub decreases-loop-i : goal.decreases-loop-i
-decreases-loop-i l = l.i
+abbrev pub invariant-loop-j : goal.invariant-loop-j
+invariant-loop-j l = (l.first ≡ first_of (said l.words) l.k) × (l.first ≤ l.j) × (l.j ≤ length (bodies (said l.words).clauses)) × Placed l.words (said l.words) l.dir × ((d : Clause) → Nth (said l.words).clauses l.k d → (l.j - l.first ≤ length d.body) × Later (said l.words) l.k d l.initial.dir l.dir (l.j - l.first) × Marks (λ v. In v (d.head ∷ drop (l.j - l.first) d.body)) l.mask)

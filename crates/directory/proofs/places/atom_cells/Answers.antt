@@ -8,7 +8,7 @@ use Rattle.directory.proofs.AtomsFrom.{atom_length, atom_short}
 use Rattle.directory.proofs.places.atom_cells.Goals as goal
 
 pub overflow_add-result : goal.overflow_add-result
-overflow_add-result c = let e : 1 + c.terms_end.result ≡ length (enc c.requires.atom) = ap (λ (n : ℕ). 1 + n) c.terms_end.ensures ∙ rw (c.wide-arity.ensures.0, c.wide-q.ensures.0) (atom_length _ _ _ _ c.requires) in omega (arith, atom_short _ _ _ _ c.requires)
+overflow_add-result c = let e : 1 + c.terms_end.result ≡ length (enc c.requires.atom) = ap (λ (n : ℕ). 1 + n) c.terms_end.ensures ∙ rw (c.from-arity.ensures, c.from-q.ensures) (atom_length _ _ _ _ c.requires) in omega (arith, atom_short _ _ _ _ c.requires)
 
 pub returns : goal.returns
-returns c = λ a. ap (λ (n : ℕ). 1 + n) c.terms_end.ensures ∙ rw (c.wide-arity.ensures.0, c.wide-q.ensures.0) (atom_length _ _ _ _ a)
+returns c = λ a. ap (λ (n : ℕ). 1 + n) c.terms_end.ensures ∙ rw (c.from-arity.ensures, c.from-q.ensures) (atom_length _ _ _ _ a)

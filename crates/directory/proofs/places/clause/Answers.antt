@@ -19,13 +19,13 @@ pub narrow-requires-3 : goal.narrow-requires-3
 narrow-requires-3 c = let a = c.requires.0 in let e = c.atom_cells-cells.ensures (head_from _ _ _ _ a) in omega (arith, c.numbers-variables.ensures.count, ap length (head_met _ _ _ _ a c.atom_cells-cells.result e c.requires.5), met_few _ _ _ a.within.head_atom)
 
 pub body_atoms-requires : goal.body_atoms-requires
-body_atoms-requires c = let a = c.requires.0 in let e = c.atom_cells-cells.ensures (head_from _ _ _ _ a) in (body_from _ _ _ _ a c.atom_cells-cells.result e c.wide-m.result c.wide-m.ensures.0, c.requires.1, rw (length-set, length-set, length-set, length-set) c.requires.2, omega (arith, c.requires.4, c.wide-j.ensures.0, c.wide-m.ensures.0, body_length _ _ _ _ a, a.within.body), omega (arith, e, head_ends _ _ _ _ a))
+body_atoms-requires c = let a = c.requires.0 in let e = c.atom_cells-cells.ensures (head_from _ _ _ _ a) in (body_from _ _ _ _ a c.atom_cells-cells.result e c.from-m.result c.from-m.ensures, c.requires.1, rw (length-set, length-set, length-set, length-set) c.requires.2, omega (arith, c.requires.4, c.from-j.ensures, c.from-m.ensures, body_length _ _ _ _ a, a.within.body), omega (arith, e, head_ends _ _ _ _ a))
 
 pub returns : goal.returns
 returns c = λ a.
     let e = c.atom_cells-cells.ensures (head_from _ _ _ _ a) in
-    let b = body_from _ _ _ _ a c.atom_cells-cells.result e c.wide-m.result c.wide-m.ensures.0 in
-    let w = rw (c.narrow.ensures, c.narrow-2.ensures, c.narrow-3.ensures, c.narrow-4.ensures, c.wide-j.ensures.0) at (c.body_atoms.ensures b) in
-    clause_written _ _ _ _ a c.args.dir.now _ c.args.k c.atom_cells-cells.result c.numbers-variables.result c.wide-m.result c.body_atoms.result
+    let b = body_from _ _ _ _ a c.atom_cells-cells.result e c.from-m.result c.from-m.ensures in
+    let w = rw (c.narrow.ensures, c.narrow-2.ensures, c.narrow-3.ensures, c.narrow-4.ensures, c.from-j.ensures) at (c.body_atoms.ensures b) in
+    clause_written _ _ _ _ a c.args.dir.now _ c.args.k c.atom_cells-cells.result c.numbers-variables.result c.from-m.result c.body_atoms.result
     c.requires.2 c.requires.3 c.requires.4 e (c.numbers-variables.ensures.count ∙ ap length (head_met _ _ _ _ a c.atom_cells-cells.result e c.requires.5))
-    (c.wide-m.ensures.0 ∙ body_length _ _ _ _ a) w
+    (c.from-m.ensures ∙ body_length _ _ _ _ a) w

@@ -7,15 +7,15 @@ use Rattle.joining.proofs.answers.of_met.Goals as goal
 pub overflow_add-s : goal.overflow_add-s
 overflow_add-s c = omega (arith, variables_read c.requires, c.requires.meeting.setting.directory.size)
 
-pub offset_bounds-dir-s : goal.offset_bounds-dir-s
-offset_bounds-dir-s c = omega (arith, variables_read c.requires, c.requires.meeting.setting.directory.size)
+pub offset_bounds-standing-s : goal.offset_bounds-standing-s
+offset_bounds-standing-s c = omega (arith, variables_read c.requires, c.requires.meeting.setting.directory.size)
 
-pub bounds-dir-s : goal.bounds-dir-s
-bounds-dir-s c = variables_read c.requires
+pub bounds-standing-s : goal.bounds-standing-s
+bounds-standing-s c = variables_read c.requires
 
 pub returns-then-meet : goal.returns-then-meet
 returns-then-meet c = λ w. met_answers w c.meet.new.sets c.first_variables-here.result c.first_variables-here.ensures.0
-    (rw c.wide.ensures.0 at c.first_variables-here.ensures.1) (rw c.if-meet.true at (c.meet.ensures w.meeting))
+    (rw c.from.ensures at c.first_variables-here.ensures.1) (rw c.if-meet.true at (c.meet.ensures w.meeting))
     (c.of_shape.ensures (asked w))
 
 pub returns : goal.returns

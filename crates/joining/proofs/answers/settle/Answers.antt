@@ -1,4 +1,4 @@
--- `settle` meets its contract: the answers at the back before place i are listed. The measure is how many places are left.
+-- `settle` meets its contract: the answers at the back before place i are listed.
 -- Assumes nothing.
 use native.Mathlib.Omega.{arith}
 use lib.ListN.{get_or}

@@ -1,26 +1,22 @@
 -- `mark_conts` meets its contract. The invariant: the set has gained the marks that the cont rows behind the link make. The measure is the link, which
 -- falls. Assumes nothing.
-use Prim.Native.Nat.{◌-◌}
 use native.Mathlib.Omega.{arith}
 use mathlib.Core.Path.{◌≡◌}
-use mathlib.Core.Logic.{inl, inr}
-use Rattle.joining.proofs.JoinSteps.{Turn, marks_row_room, marks_row_falls, marks_row_done}
+use Rattle.joining.proofs.JoinSteps.{marks_row_room, marks_row_falls, marks_row_done}
 use Rattle.joining.proofs.joins.mark_conts.Goals as goal
-use Rattle.joining.proofs.joins.mark_conts.Goals.{then-since-row, else-since-row}
 
 pub mask_at-requires : goal.mask_at-requires
-mask_at-requires c = let w = c.requires.0 in marks_row_room w _ _ _ _ _ (c.loop-link.invariant w) c.loop-link-test.true
+mask_at-requires c = let w = c.requires.0 in marks_row_room w (c.loop-link.invariant w) c.loop-link-test.true
 
 pub before_at-link-requires : goal.before_at-link-requires
-before_at-link-requires c = let w = c.requires.0 in marks_row_room w _ _ _ _ _ (c.loop-link.invariant w) c.loop-link-test.true
+before_at-link-requires c = let w = c.requires.0 in marks_row_room w (c.loop-link.invariant w) c.loop-link-test.true
 
 pub loop-link-smaller : goal.loop-link-smaller
-loop-link-smaller c = let w = c.requires.0 in rw c.before_at-link.ensures (marks_row_falls w _ _ _ _ _ (c.loop-link.invariant w) c.loop-link-test.true)
+loop-link-smaller c = let w = c.requires.0 in rw c.before_at-link.ensures (marks_row_falls w (c.loop-link.invariant w) c.loop-link-test.true)
 
 pub loop-link-preserved : goal.loop-link-preserved
 loop-link-preserved c = λ w.
-    let turn : Turn c.args.since c.args.fresh c.args.all (c.loop-link.link - 1) c.if-since-row.upto = (elim c.if-since-row.branch [ then-since-row arm ↦ inl (arm.if-since-row.true, arm.upto-is) | else-since-row arm ↦ inr (arm.if-since-row.false, arm.upto-is) ]) in
-    rw c.before_at-link.ensures (marks_row_done w _ _ _ _ _ (c.loop-link.invariant w) c.loop-link-test.true _ _ _ turn c.mask_at.ensures c.mark_joined.ensures)
+    rw c.before_at-link.ensures (marks_row_done w (c.loop-link.invariant w) c.loop-link-test.true c.due-due.ensures c.mask_at.ensures c.mark_joined.ensures)
 
 pub returns : goal.returns
 returns c = λ w.

@@ -5,7 +5,7 @@ use Rattle.joining.proofs.JoinSteps.{MarksWalk}
 use Rattle.joining.proofs.joins.mark_conts.Given as goal
 
 abbrev pub invariant-loop-link : goal.invariant-loop-link
-invariant-loop-link l = (w : ContsThere l.table l.answers l.newest l.fresh l.all) → MarksWalk w l.since l.there l.initial.found l.link l.found
+invariant-loop-link l = (w : ContsThere l.table l.answers.fresh.now l.answers.all.now l.newest) → MarksWalk w l.since l.there l.initial.found l.link l.found
 
 abbrev pub decreases-loop-link : goal.decreases-loop-link
 decreases-loop-link l = l.link

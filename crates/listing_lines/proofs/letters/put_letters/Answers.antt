@@ -7,9 +7,9 @@ use Rattle.listing_lines.proofs.LetterLaws.{some_letters}
 use Rattle.listing_lines.proofs.letters.put_letters.Goals as goal
 
 pub loop-v-preserved : goal.loop-v-preserved
-loop-v-preserved c = (omega arith, rw add-one (put_append c.loop-v.invariant.1 c.put_letter-end.ensures))
+loop-v-preserved c = rw add-one (put_append c.loop-v.invariant c.put_letter-end.ensures)
 
 pub returns : goal.returns
 returns c = let a = c.args in
     let e : c.loop-v.v ≡ 16 = omega arith in
-    rw (some_letters a.set a.mask (omega (arith, c.ranges)) c.if-set-eq0.false) (rw e at c.loop-v.invariant.1)
+    rw (some_letters a.set a.mask (omega (arith, c.ranges)) c.if-set-eq0.false) (rw e at c.loop-v.invariant)

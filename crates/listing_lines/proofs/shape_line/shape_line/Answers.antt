@@ -7,20 +7,21 @@ use Rattle.listing_lines.proofs.shape_line.shape_line.Goals as goal
 pub overflow_add-s : goal.overflow_add-s
 overflow_add-s c = omega (arith, shape_few c.requires)
 
-pub offset_bounds-dir-s : goal.offset_bounds-dir-s
-offset_bounds-dir-s c = omega (arith, shape_few c.requires)
+pub offset_bounds-program-s : goal.offset_bounds-program-s
+offset_bounds-program-s c = omega (arith, shape_few c.requires)
 
-pub bounds-dir-s : goal.bounds-dir-s
-bounds-dir-s c = omega (arith, shape_few c.requires)
+pub bounds-program-s : goal.bounds-program-s
+bounds-program-s c = omega (arith, shape_few c.requires)
+
+pub invariant_of-symbols : goal.invariant_of-symbols
+invariant_of-symbols c = let named = shape_named c.requires _ _ _ c.from-at.ensures c.from-functions.ensures c.from-clauses.ensures in
+    record { few = named.few; size = named.size }
 
 pub put_atom-cells-requires : goal.put_atom-cells-requires
-put_atom-cells-requires c = let w = c.requires in (
-  shape_from w _ _ _ c.wide-from.ensures.0 c.wide-functions.ensures.0 c.wide-clauses.ensures.0,
-  shape_named w _ _ _ c.wide-from.ensures.0 c.wide-functions.ensures.0 c.wide-clauses.ensures.0,
-)
+put_atom-cells-requires c = shape_from c.requires _ _ _ c.from-at.ensures c.from-functions.ensures c.from-clauses.ensures
 
 pub returns : goal.returns
 returns c = λ w.
-    let a = shape_from w _ _ _ c.wide-from.ensures.0 c.wide-functions.ensures.0 c.wide-clauses.ensures.0 in
-    let put = shape_put w _ _ _ c.wide-from.ensures.0 c.wide-functions.ensures.0 c.wide-clauses.ensures.0 (c.put_atom-cells.ensures a) in
-    put_append (put_append (put_append c.put_bytes-number_at.ensures c.put_wide-number_end.ensures) put) c.put_byte.ensures
+    let a = shape_from w _ _ _ c.from-at.ensures c.from-functions.ensures c.from-clauses.ensures in
+    let put = shape_put w _ _ _ c.from-at.ensures c.from-functions.ensures c.from-clauses.ensures (c.put_atom-cells.ensures a) in
+    put_append (put_append (put_append c.put_bytes-number_at.ensures c.put_wide-end.ensures) put) c.put_byte.ensures

@@ -1,10 +1,6 @@
 -- `renumber` meets its contract: the result is right for the shape's first k variables. Assumes nothing.
-use Prim.Native.Nat.{◌≤◌, ◌-◌}
 use Rattle.marks.specs.Modes.{Reordered}
 use Rattle.marks.proofs.rows.renumber.Given as goal
 
 abbrev pub invariant-loop-k : goal.invariant-loop-k
-invariant-loop-k l = (l.k ≤ l.count) × Reordered l.order l.k l.mask l.renumbered
-
-abbrev pub decreases-loop-k : goal.decreases-loop-k
-decreases-loop-k l = l.count - l.k
+invariant-loop-k l = Reordered l.order.variables l.k l.mask l.renumbered

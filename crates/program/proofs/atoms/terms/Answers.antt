@@ -1,34 +1,23 @@
--- `terms` meets its contract. The loop's invariant: an answer for what is left is the answer for the whole, and few enough terms are asked for. The measure is the words left.
+-- `terms` meets its contract: a fault of a cell is the fault of all, and past a cell the answer is that for the terms left.
 -- Assumes nothing.
-use native.Mathlib.Omega.{arith}
-use Rattle.program.specs.declared.part.Part.TheVariants.{Fault, Next}
-use Rattle.program.proofs.Taking.{terms_none, terms_fault, terms_opens, Took, taken_took}
+use Rattle.std.proofs.lemmas.Result.{err_from_is_err_and}
+use Rattle.program.proofs.Taking.{terms_fault, terms_next, terms_done}
 use Rattle.program.proofs.atoms.terms.Goals as goal
 
-pub returns-in-Fault : goal.returns-in-Fault
-returns-in-Fault c = let a = c.args in
+pub returns-in_err-opened : goal.returns-in_err-opened
+returns-in_err-opened c = let a = c.args in
     let l = c.loop-left in
-    l.invariant.3 (Fault c.in-Fault.number c.in-Fault.place)
-    (terms_fault a.words.now a.functions.now l.left l.taken l.known l.at.at _ _ c.loop-left-test.true l.invariant.0
-    (rw c.in-Fault.is at c.take.ensures))
+    let p = err_from_is_err_and c.from_residual.result c.from_residual.ensures.1 in
+    rw (p.1, p.2)
+    (terms_fault a.from.words.now a.functions.now a.from a.asked a.seen l.at l.left l.taken l.known c.loop-left-test.true l.invariant _ c.in_err-opened.ensures)
 
 pub loop-left-preserved : goal.loop-left-preserved
-loop-left-preserved c = let took : Took c.args.words.now c.args.functions.now c.loop-left.taken c.loop-left.known c.loop-left.at.at
-    c.in-Opens.arity c.in-Opens.after c.in-Opens.next = let a = c.args in
+loop-left-preserved c = let a = c.args in
     let l = c.loop-left in
-    taken_took a.words.now a.functions.now l.taken l.known l.at.at _ _ _ (λ i. (c.shared_slice_known-2-1.given i).fits)
-    (rw c.in-Opens.is at c.take.ensures) in
-    let a = c.args in
-    let l = c.loop-left in
-    let t = took in (
-      omega (arith, t.inside, t.on),
-      omega (arith, t.arity_fits, l.invariant),
-      omega (arith, t.short),
-      λ r m. l.invariant.3 r (terms_opens a.words.now a.functions.now l.left l.taken l.known l.at.at _ _ _ r c.loop-left-test.true t m),
-    )
+    rw c.from.ensures
+    (terms_next a.from.words.now a.functions.now a.from a.asked a.seen l.at l.left l.taken l.known c.loop-left-test.true l.invariant c.in_ok-opened.opened c.in_ok-opened.next (λ i. (c.type_inv.functions i).fits) c.in_ok-opened.ensures).0
 
 pub returns : goal.returns
 returns c = let a = c.args in
     let l = c.loop-left in
-    l.invariant.3 (Next l.known l.at)
-    (terms_none a.words.now a.functions.now l.left l.taken l.known l.at c.loop-left-test.false l.invariant.0)
+    terms_done a.from.words.now a.functions.now a.from a.asked a.seen l.at l.left l.taken l.known c.loop-left-test.false l.invariant

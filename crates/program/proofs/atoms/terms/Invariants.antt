@@ -1,16 +1,11 @@
--- `terms` meets its contract. The loop's invariant: an answer for what is left is the answer for the whole, and few enough terms are asked for. The measure is the words left.
--- Assumes nothing.
-use Prim.Native.Nat.{◌≤◌, ◌*◌, ◌-◌}
-use lib.ListN.{length, drop}
-use Rattle.program.specs.declared.part.Part.{Part}
-use Rattle.program.specs.Atoms.{terms}
-use Rattle.program.specs.Part.{Meets, met}
+-- `terms` meets its contract. The loop's invariant: the answer for the terms that are left is the answer for all. The measure is how many words are left.
+use lib.ListN.{length}
+use Rattle.program.specs.Part.{left}
+use Rattle.program.proofs.Taking.{OnwardTerms}
 use Rattle.program.proofs.atoms.terms.Given as goal
 
 abbrev pub invariant-loop-left : goal.invariant-loop-left
-invariant-loop-left l = (l.at.at ≤ length l.words) × (l.left ≤ 65536 * l.taken) × (l.taken ≤ 32)
-    × ((r : Part) → Meets l.words met r (terms l.functions (drop l.at.at l.words) l.left l.taken l.known)
-    → Meets l.words met r (terms l.functions (drop l.initial.at.at l.words) l.initial.left l.initial.taken l.initial.known))
+invariant-loop-left l = OnwardTerms l.from.words.now l.functions l.from l.asked l.seen l.at l.left l.taken l.known
 
 abbrev pub decreases-loop-left : goal.decreases-loop-left
-decreases-loop-left l = length l.words - l.at.at
+decreases-loop-left l = length (left l.at)

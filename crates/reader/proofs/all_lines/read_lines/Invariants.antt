@@ -5,7 +5,7 @@ use Rattle.reader.proofs.TextLines.{Reading}
 use Rattle.reader.proofs.all_lines.read_lines.Given as goal
 
 abbrev pub invariant-loop-c : goal.invariant-loop-c
-invariant-loop-c l = Reading l.text l.initial.names l.initial.hashes l.initial.arities l.initial.words l.names l.hashes l.arities l.words l.c l.at
+invariant-loop-c l = Reading l.text l.initial.symbols l.initial.words l.symbols l.words l.c l.at
 
 abbrev pub decreases-loop-c : goal.decreases-loop-c
 decreases-loop-c l = length l.text + 1 - l.at

@@ -10,11 +10,10 @@ pub overflow_shr-concerns : goal.overflow_shr-concerns
 overflow_shr-concerns c = omega (arith, (clause_few _ _ _ _ _ _ _ c.requires.0.asked).0)
 
 pub returns : goal.returns
-returns c = (
-  c.requires.3,
-  λ w.
-      stepped_none _ c.args.at.number _ _ _ _ _ c.requires.1
-      (λ key (row, h, e). absurd (not_looked w.situation.setting _ _ _ (λ r new by. c.if-concerns-k-eq1.false (asked_every c.requires.0 w r new by)) row h)),
-  λ l. c.requires.4,
-  λ l. c.requires.5,
-)
+returns c = record {
+  scratch = c.requires.1.scratch;
+  stepped = λ w.
+      stepped_none _ c.args.at.number _ _ _ _ _ c.requires.1.writable
+      (λ key (row, h, e). absurd (not_looked w.situation.setting _ _ _ (λ r new by. c.if-concerns-k-eq1.false (asked_every c.requires.0 w r new by)) row h));
+  works = c.requires.1;
+}

@@ -1,22 +1,16 @@
--- `link` meets its contract: each turn puts one row more into the chain of its slot. The measure is how many rows are left. Assumes nothing.
-use Rattle.program.specs.Limits.{row_size}
+-- `link` meets its contract: each turn puts one row more into the chain of its slot. Assumes nothing.
+use Rattle.std.proofs.Common.{arith, length, ◌≡◌, ◌∙◌, ◌<◌}
 use Rattle.rows.specs.Rows.{slot_at}
-use lib.ListN.{get_or}
 use Rattle.rows.proofs.Linking.{linked_more, befores_slot}
-use lib.ListN.{length, length-set}
-use mathlib.Core.Path.{◌≡◌, ◌∙◌}
-use Prim.Native.Nat.{◌+◌, ◌*◌, ◌<◌}
-use native.Mathlib.Omega.{arith}
 use Rattle.rows.proofs.chain.link.Goals as goal
 
 pub loop-r-preserved : goal.loop-r-preserved
-loop-r-preserved c = let slot_read : c.wide-slot.result ≡ slot_at c.loop-r.table c.loop-r.r = c.wide-slot.ensures.0 ∙ c.slot_at.ensures in
-    let slot_within : slot_at c.loop-r.table c.loop-r.r < length c.loop-r.heads = let same = befores_slot c.args.from c.loop-r.r c.args.table.now c.loop-r.table c.loop-r.invariant.4.only_befores c.loop-r.r in
-    let below = c.requires.by_index c.loop-r.r c.loop-r-test.true in
-    rw same (omega (arith, c.loop-r.invariant.3, c.requires.from_le_to.3)) in (
-      omega arith,
-      omega arith,
-      length-set c.loop-r.table (row_size * c.loop-r.r + 3) (get_or c.loop-r.heads c.wide-slot.result 0) ∙ c.loop-r.invariant.2,
-      length-set c.loop-r.heads c.wide-slot.result (c.loop-r.r + 1) ∙ c.loop-r.invariant.3,
-      rw (slot_read) (linked_more c.args.table.now c.loop-r.table c.loop-r.heads c.args.from c.loop-r.r c.loop-r.invariant.0 (omega arith) (slot_within) c.loop-r.invariant.4),
-    )
+loop-r-preserved c = let l = c.loop-r in
+    let slot_read : c.from-slot.result ≡ slot_at l.table l.r = c.from-slot.ensures ∙ c.slot_at.ensures in
+    let same = befores_slot c.args.from l.r c.args.table.now l.table l.invariant.only_befores l.r in
+    let below = c.requires.by_index l.r c.loop-r-test.true in
+    let within : slot_at l.table l.r < length l.heads = rw same (omega arith) in
+    rw slot_read (linked_more c.args.table.now l.table l.heads c.args.from l.r (omega arith) (omega arith) within l.invariant)
+
+pub returns : goal.returns
+returns c = let e : c.loop-r.r ≡ c.args.to = omega (arith, c.requires.from_le_to.0) in rw e at c.loop-r.invariant

@@ -5,4 +5,4 @@ use native.Mathlib.Omega.{arith}
 use Rattle.rows.proofs.maskset.insert.Goals as goal
 
 pub returns : goal.returns
-returns c = rw (c.wide-at.ensures.0, c.one_bit.ensures) (inserted_new c.args.set.now c.args.q (omega (arith, c.requires, c.ranges.q.fits)) (λ h. let t : T c.contains.result = c.contains.ensures.1 h in rw c.if-contains.false at t))
+returns c = rw c.put.ensures (inserted_new c.args.set.now c.args.q (omega (arith, c.requires, c.ranges.q.fits)) (λ h. let t : T c.contains.result = c.contains.ensures.1 h in rw c.if-contains.false at t))

@@ -9,8 +9,8 @@ use Prim.Native.Nat.{◌<◌}
 use native.Mathlib.Omega.{arith}
 use Rattle.rows.proofs.store.add.Goals as goal
 
-pub returns-then-count-room : goal.returns-then-count-room
-returns-then-count-room c = let a = c.args in
+pub returns-then-count-room-clause-added : goal.returns-then-count-room-clause-added
+returns-then-count-room-clause-added c = let a = c.args in
     let pre = c.requires in
     let more : a.n < a.room = omega (arith, c.if-count-room.true) in
     let fresh : Memᴰ (key_of a.slot a.mask) (keys_of a.table.now a.n) → ⊥ =

@@ -11,7 +11,7 @@ use Rattle.solving.proofs.solve.solve_calls.Given as goal
 abbrev pub invariant-loop-link : goal.invariant-loop-link
 invariant-loop-link l = ((since : ℕ) × (old : ℕ) × CallsAsked l.initial.table l.initial.solved since old l.newest l.slot l.mask l.n × (old ≤ l.n))
     × (length l.solved ≡ set_words)
-    × ((since old : ℕ) → old ≤ l.n → (a : CallsAsked l.initial.table l.initial.solved since old l.newest l.slot l.mask l.n) → Going a l.number l.room l.initial.buckets l.link l.rows l.table l.buckets l.solved)
+    × ((since old : ℕ) → old ≤ l.n → (a : CallsAsked l.initial.table l.initial.solved since old l.newest l.slot l.mask l.n) → Going a l.at.number l.at.room l.initial.buckets l.link l.rows l.table l.buckets l.solved)
 
 abbrev pub decreases-loop-link : goal.decreases-loop-link
 decreases-loop-link l = l.link

@@ -10,8 +10,8 @@ use Rattle.solving.proofs.solve.solve_marks.Given as goal
 
 abbrev pub invariant-loop-q : goal.invariant-loop-q
 invariant-loop-q l = (length l.solved ≡ set_words)
-    × ((w : ToShape l.initial.table l.at.since l.at.rows l.newest l.slot) → ShapeSets w.S w.c.head l.sets l.here l.there → FoundFor w l.found l.marks
-    → Through w l.here l.from l.found l.at.number l.at.room l.n l.initial.buckets l.q l.rows l.table l.buckets l.solved)
+    × ((w : ToShape l.initial.table l.at.since l.at.rows l.calls.newest l.slot) → ShapeSets w.S w.c.head l.calls.sets.now l.calls.here l.calls.there → FoundFor w l.found.words.now l.found.below
+    → Through w l.calls.here l.from l.found.words.now l.at.number l.at.room l.n l.initial.buckets l.q l.rows l.table l.buckets l.solved)
 
 abbrev pub decreases-loop-q : goal.decreases-loop-q
-decreases-loop-q l = l.marks - l.q
+decreases-loop-q l = l.found.below - l.q

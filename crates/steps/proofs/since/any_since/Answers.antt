@@ -13,8 +13,8 @@ offset_bounds-heads-first c = omega (arith, link_below c.requires.setting (c.loo
 pub bounds-heads-first : goal.bounds-heads-first
 bounds-heads-first c = omega (arith, link_below c.requires.setting (c.loop-link.invariant c.requires.words c.requires.p c.requires.setting).links c.loop-link-test.true, c.requires.slots_there)
 
-pub returns-then-since-wide : goal.returns-then-since-wide
-returns-then-since-wide c = λ words p S. (λ t. since_found S (c.loop-link.invariant words p S) c.loop-link-test.true (omega (arith, c.if-since-wide.true, c.wide.ensures.0)), λ f. tt)
+pub returns-then-since-from : goal.returns-then-since-from
+returns-then-since-from c = λ words p S. (λ t. since_found S (c.loop-link.invariant words p S) c.loop-link-test.true (omega (arith, c.if-since-from.true, c.from.ensures)), λ f. tt)
 
 pub overflow_add-s : goal.overflow_add-s
 overflow_add-s c = omega (arith, link_below c.requires.setting (c.loop-link.invariant c.requires.words c.requires.p c.requires.setting).links c.loop-link-test.true)
@@ -26,10 +26,10 @@ pub bounds-dir-s : goal.bounds-dir-s
 bounds-dir-s c = omega (arith, link_below c.requires.setting (c.loop-link.invariant c.requires.words c.requires.p c.requires.setting).links c.loop-link-test.true, c.requires.setting.directory.size)
 
 pub loop-link-smaller : goal.loop-link-smaller
-loop-link-smaller c = rw c.wide-link-in-loop-link.ensures.0 (links_fall c.requires.setting (c.loop-link.invariant c.requires.words c.requires.p c.requires.setting).links c.loop-link-test.true)
+loop-link-smaller c = rw c.from-link-in-loop-link.ensures (links_fall c.requires.setting (c.loop-link.invariant c.requires.words c.requires.p c.requires.setting).links c.loop-link-test.true)
 
 pub loop-link-preserved : goal.loop-link-preserved
-loop-link-preserved c = λ words p S. rw c.wide-link-in-loop-link.ensures.0 (since_goes_on S (c.loop-link.invariant words p S) c.loop-link-test.true (λ l. omega (arith, l, c.if-since-wide.false, c.wide.ensures.0)))
+loop-link-preserved c = λ words p S. rw c.from-link-in-loop-link.ensures (since_goes_on S (c.loop-link.invariant words p S) c.loop-link-test.true (λ l. omega (arith, l, c.if-since-from.false, c.from.ensures)))
 
 pub returns : goal.returns
 returns c = λ words p S. (λ f. absurd f, λ f. absurd (since_ends S (c.loop-link.invariant words p S) c.loop-link-test.false f))

@@ -1,7 +1,8 @@
--- `noted_set` meets its contract: a set is its two words. Assumes nothing.
-use native.Mathlib.Omega.{arith}
-use Rattle.terms.proofs.BytesPut.{set_is}
+-- `noted_set` meets its contract: a set is its four bytes.
+use Rattle.std.proofs.Common.{rules}
+use Rattle.terms.specs.Bytes.{word_at, noted_set}
 use Rattle.terms.proofs.bytes.noted_set.Goals as goal
 
 pub returns : goal.returns
-returns c = omega (arith, set_is c.args.bytes.now c.args.i)
+unfolding noted_set word_at
+returns c = search rules

@@ -1,7 +1,8 @@
--- `word_at` meets its contract: a word is its two bytes. Assumes nothing.
-use native.Mathlib.Omega.{arith}
-use Rattle.terms.proofs.BytesPut.{word_is}
+-- `word_at` meets its contract: a word is its two bytes.
+use Rattle.std.proofs.Common.{rules}
+use Rattle.terms.specs.Bytes.{word_at}
 use Rattle.terms.proofs.bytes.word_at.Goals as goal
 
 pub returns : goal.returns
-returns c = omega (arith, word_is c.args.bytes.now c.args.i)
+unfolding word_at
+returns c = search rules

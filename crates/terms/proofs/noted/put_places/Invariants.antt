@@ -1,13 +1,8 @@
--- `put_places` meets its contract. The invariant: the places of the variables passed are put. The measure is how many variables are left.
--- Assumes nothing.
-use Prim.Native.Nat.{◌+◌, ◌-◌, ◌≤◌}
+-- The invariant of `put_places`: the places of the variables passed are put.
+use Prim.Native.Nat.{◌+◌}
 use mathlib.Core.Path.{◌≡◌}
-use Rattle.terms.specs.Store.{all_variables}
 use Rattle.terms.specs.Noted.{count_of, PlacesPut}
 use Rattle.terms.proofs.noted.put_places.Given as goal
 
 abbrev pub invariant-loop-x : goal.invariant-loop-x
-invariant-loop-x l = (l.x ≤ all_variables) × (l.end ≡ l.at + count_of l.set l.x) × PlacesPut l.places l.initial.bytes l.bytes l.set l.at l.x
-
-abbrev pub decreases-loop-x : goal.decreases-loop-x
-decreases-loop-x l = all_variables - l.x
+invariant-loop-x l = (l.end ≡ l.at + count_of l.set l.x) × PlacesPut l.places l.initial.bytes l.bytes l.set l.at l.x

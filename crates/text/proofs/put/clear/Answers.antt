@@ -1,12 +1,11 @@
--- `text::put::clear` meets its contract. The loop's invariant: what is left of the room decides. Assumes nothing.
-use mathlib.Core.Path.{◌∙◌}
+-- `text::put::clear` meets its contract. Assumes nothing.
 use native.Mathlib.Omega.{arith}
-use lib.ListN.{length-set}
-use Rattle.text.proofs.Rooms.{cleared_more, cleared_all}
+use Rattle.std.proofs.lemmas.Grind.{common_steps}
+use Rattle.text.proofs.Rooms.{cleared, cleared_none}
 use Rattle.text.proofs.put.clear.Goals as goal
 
-pub loop-i-preserved : goal.loop-i-preserved
-loop-i-preserved c = (length-set c.loop-i.out c.loop-i.i 0 ∙ c.loop-i.invariant.0, cleared_more c.loop-i.out c.loop-i.i (omega arith) ∙ c.loop-i.invariant.1)
+pub returns-then-from-out : goal.returns-then-from-out
+returns-then-from-out c = grind (arith, common_steps, c.fill.ensures.after, cleared)
 
-pub returns : goal.returns
-returns c = cleared_all c.loop-i.out c.loop-i.i (omega arith) ∙ c.loop-i.invariant.1
+pub returns-else-from-out : goal.returns-else-from-out
+returns-else-from-out c = cleared_none c.args.out.now c.args.from (omega arith)

@@ -18,44 +18,36 @@ bounds-words-1 c = omega (arith, first_three _ c.requires.0)
 pub bounds-words-2 : goal.bounds-words-2
 bounds-words-2 c = omega (arith, first_three _ c.requires.0)
 
-pub slice_bounds-predicates-end : goal.slice_bounds-predicates-end
-slice_bounds-predicates-end c = let words = c.args.words.now in
+pub slice_bounds-symbols-end : goal.slice_bounds-symbols-end
+slice_bounds-symbols-end c = let words = c.args.words.now in
     let a = c.requires.0 in
-    middle_within words a c.wide-middle.result c.wide.result c.wide-count.result c.wide-middle.ensures.0 c.wide.ensures.0 c.wide-count.ensures.0
+    middle_within words a c.from-middle.result c.from.result c.from-count.result c.from-middle.ensures c.from.ensures c.from-count.ensures
 
-pub slice_bounds-functions-end : goal.slice_bounds-functions-end
-slice_bounds-functions-end c = let words = c.args.words.now in
+pub slice_bounds-symbols-end-2 : goal.slice_bounds-symbols-end-2
+slice_bounds-symbols-end-2 c = let words = c.args.words.now in
     let a = c.requires.0 in
-    start_within words a c.wide-middle.result c.wide.result c.wide-count.result c.wide-middle.ensures.0 c.wide.ensures.0 c.wide-count.ensures.0
+    start_within words a c.from-middle.result c.from.result c.from-count.result c.from-middle.ensures c.from.ensures c.from-count.ensures
 
-pub put_declarations-first-requires : goal.put_declarations-first-requires
-put_declarations-first-requires c = let words = c.args.words.now in
-    let a = c.requires.0 in
-    let h = named_parts words a c.wide-middle.result c.wide.result c.wide-count.result c.wide-middle.ensures.0 c.wide.ensures.0 c.wide-count.ensures.0 c.args.names.now c.requires.1 in
-    (omega (arith, h.few), omega (arith, h.size))
-
-pub put_declarations-second-requires : goal.put_declarations-second-requires
-put_declarations-second-requires c = let words = c.args.words.now in
-    let a = c.requires.0 in
-    let h = named_parts words a c.wide-middle.result c.wide.result c.wide-count.result c.wide-middle.ensures.0 c.wide.ensures.0 c.wide-count.ensures.0 c.args.names.now c.requires.1 in
-    (h.few, omega (arith, h.size))
+pub invariant_of-symbols : goal.invariant_of-symbols
+invariant_of-symbols c = let h = named_parts c.args.words.now c.requires.0 c.from-middle.result c.from.result c.from-count.result c.from-middle.ensures c.from.ensures c.from-count.ensures c.args.names.now c.requires.1 in
+    record { few = h.few; size = h.size }
 
 pub put_clauses-walked-requires : goal.put_clauses-walked-requires
 put_clauses-walked-requires c = let words = c.args.words.now in
     let a = c.requires.0 in
-    (clauses_to_come words a c.wide-middle.result c.wide.result c.wide-count.result c.wide-middle.ensures.0 c.wide.ensures.0 c.wide-count.ensures.0, named_parts words a c.wide-middle.result c.wide.result c.wide-count.result c.wide-middle.ensures.0 c.wide.ensures.0 c.wide-count.ensures.0 c.args.names.now c.requires.1, start_within words a c.wide-middle.result c.wide.result c.wide-count.result c.wide-middle.ensures.0 c.wide.ensures.0 c.wide-count.ensures.0)
+    (clauses_to_come words a c.from-middle.result c.from.result c.from-count.result c.from-middle.ensures c.from.ensures c.from-count.ensures, start_within words a c.from-middle.result c.from.result c.from-count.result c.from-middle.ensures c.from.ensures c.from-count.ensures)
 
 pub put_query-requires : goal.put_query-requires
 put_query-requires c = let words = c.args.words.now in
     let a = c.requires.0 in
-    let w = c.put_clauses-walked.ensures (clauses_to_come words a c.wide-middle.result c.wide.result c.wide-count.result c.wide-middle.ensures.0 c.wide.ensures.0 c.wide-count.ensures.0) in
-    (goal_to_come words a c.wide-middle.result c.wide.result c.wide-count.result c.wide-middle.ensures.0 c.wide.ensures.0 c.wide-count.ensures.0 c.put_clauses-walked.result.at w.to_come, named_parts words a c.wide-middle.result c.wide.result c.wide-count.result c.wide-middle.ensures.0 c.wide.ensures.0 c.wide-count.ensures.0 c.args.names.now c.requires.1, words_short words a)
+    let w = c.put_clauses-walked.ensures (clauses_to_come words a c.from-middle.result c.from.result c.from-count.result c.from-middle.ensures c.from.ensures c.from-count.ensures) in
+    (goal_to_come words a c.from-middle.result c.from.result c.from-count.result c.from-middle.ensures c.from.ensures c.from-count.ensures c.put_clauses-walked.result.at w.to_come, words_short words a)
 
 pub returns : goal.returns
 returns c = let words = c.args.words.now in
     let a = c.requires.0 in
-    let w = c.put_clauses-walked.ensures (clauses_to_come words a c.wide-middle.result c.wide.result c.wide-count.result c.wide-middle.ensures.0 c.wide.ensures.0 c.wide-count.ensures.0) in
-    let q = c.put_query.ensures (goal_to_come words a c.wide-middle.result c.wide.result c.wide-count.result c.wide-middle.ensures.0 c.wide.ensures.0 c.wide-count.ensures.0 c.put_clauses-walked.result.at w.to_come) in
+    let w = c.put_clauses-walked.ensures (clauses_to_come words a c.from-middle.result c.from.result c.from-count.result c.from-middle.ensures c.from.ensures c.from-count.ensures) in
+    let q = c.put_query.ensures (goal_to_come words a c.from-middle.result c.from.result c.from-count.result c.from-middle.ensures c.from.ensures c.from-count.ensures c.put_clauses-walked.result.at w.to_come) in
     subst (λ (t : List ℕ). Put t c.args.text.now c.put_query.new.out 0 c.put_query.result)
-    (text_said words a c.wide-middle.result c.wide.result c.wide-count.result c.wide-middle.ensures.0 c.wide.ensures.0 c.wide-count.ensures.0 c.args.names.now)
-    (put_append c.put_declarations-first.ensures (put_append c.put_declarations-second.ensures (put_append w.put q)))
+    (text_said words a c.from-middle.result c.from.result c.from-count.result c.from-middle.ensures c.from.ensures c.from-count.ensures c.args.names.now)
+    (put_append c.put_declarations-first.ensures (put_append c.put_declarations-end.ensures (put_append w.put q)))

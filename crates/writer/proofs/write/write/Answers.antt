@@ -1,65 +1,23 @@
--- `writer::write::write` meets its contract: the words' faults, the names' faults, the room, in this order. Assumes nothing.
-use Prim.Native.Nat.{ℕ, ◌+◌}
-use mathlib.Core.Path.{sym, ap, ap₂, ◌∙◌}
-use native.Mathlib.Omega.{arith}
-use lib.ListN.{length}
-use Rattle.program.specs.declared.reply.Reply.{Reply}
-use Rattle.directory.specs.Said.{said}
-use Rattle.directory.proofs.AcceptedWords.{said_sound, said_within, first_three, predicate_count, function_count}
-use Rattle.text.proofs.Puts.{put_length}
-use Rattle.writer.specs.Names.{names_of, names_reply}
-use Rattle.writer.specs.Write.{reply_of, text_in}
-use Rattle.writer.proofs.Answers.{words_accepted, words_refused, names_size, names_refused, text_answered, room_decides}
+-- `writer::write::write` meets its contract: what stands behind an answer is cleared. Assumes nothing.
+use Prim.Native.Nat.{ℕ}
+use mathlib.Core.Path.{ap, ◌∙◌}
+use mathlib.Core.List.{[]}
+use lib.ListN.{length, take}
+use Rattle.text.specs.Room.{in_room}
+use Rattle.writer.specs.Write.{answer_of}
+use Rattle.writer.proofs.Answers.{text_written, text_refused}
 use Rattle.writer.proofs.write.write.Goals as goal
 
-pub returns-then-found-ne-ACCEPTED : goal.returns-then-found-ne-ACCEPTED
-returns-then-found-ne-ACCEPTED c = let s = c.args in
-    let r = words_refused s.words.now c.scan-found.result c.scan-found.ensures s.names.now (length s.text.now) c.if-found-ne-ACCEPTED.true in
-    (r.0, c.clear.ensures ∙ r.1)
+pub returns-in-Ok : goal.returns-in-Ok
+returns-in-Ok c = let a = c.args in
+    let room = length a.text.now in
+    let left = c.put_answer-answer.new.text in
+    let end = c.in-Ok.end in
+    let w = text_written room left end (answer_of a.words.now a.names.now room) c.in-Ok.ensures.1 in
+    (w.0, c.clear.ensures ∙ ap (λ (n : ℕ). in_room n (take end left)) c.in-Ok.ensures.0 ∙ w.1)
 
-pub bounds-words-0 : goal.bounds-words-0
-bounds-words-0 c = omega (arith, first_three _ (words_accepted c.args.words.now c.scan-found.result c.scan-found.ensures c.if-found-ne-ACCEPTED.false))
-
-pub bounds-words-1 : goal.bounds-words-1
-bounds-words-1 c = omega (arith, first_three _ (words_accepted c.args.words.now c.scan-found.result c.scan-found.ensures c.if-found-ne-ACCEPTED.false))
-
-pub names_reply-named-requires : goal.names_reply-named-requires
-names_reply-named-requires c = let words = c.args.words.now in
-    let names = c.args.names.now in
-    let a = words_accepted words c.scan-found.result c.scan-found.ensures c.if-found-ne-ACCEPTED.false in
-    let p = c.wide.ensures.0 ∙ predicate_count words a in
-    let f = c.wide-2.ensures.0 ∙ function_count words a in
-    let w = said_within words a in
-    omega (arith, w.predicates_most, w.functions_most)
-
-pub returns-then-named-ne-ACCEPTED : goal.returns-then-named-ne-ACCEPTED
-returns-then-named-ne-ACCEPTED c = let words = c.args.words.now in
-    let names = c.args.names.now in
-    let a = words_accepted words c.scan-found.result c.scan-found.ensures c.if-found-ne-ACCEPTED.false in
-    let p = c.wide.ensures.0 ∙ predicate_count words a in
-    let f = c.wide-2.ensures.0 ∙ function_count words a in
-    let named = c.names_reply-named.ensures ∙ ap₂ (λ (x y : ℕ). names_reply (names_of names x (x + y))) p f in
-    let r = names_refused words names (length c.args.text.now) (said words) (said_sound words a) c.names_reply-named.result named c.if-named-ne-ACCEPTED.true in
-    (r.0, c.clear-then-named-ne-ACCEPTED.ensures ∙ r.1)
-
-pub put_text-end-requires : goal.put_text-end-requires
-put_text-end-requires c = let words = c.args.words.now in
-    let names = c.args.names.now in
-    let a = words_accepted words c.scan-found.result c.scan-found.ensures c.if-found-ne-ACCEPTED.false in
-    let p = c.wide.ensures.0 ∙ predicate_count words a in
-    let f = c.wide-2.ensures.0 ∙ function_count words a in
-    let named = c.names_reply-named.ensures ∙ ap₂ (λ (x y : ℕ). names_reply (names_of names x (x + y))) p f in
-    let w = said_within words a in
-    let n = length (said words).predicates in
-    (a, record { few = omega (arith, w.predicates_most, w.functions_most); size = names_size names n (n + length (said words).functions) (ap (λ (r : Reply). r.number) (sym named) ∙ c.if-named-ne-ACCEPTED.false) })
-
-pub returns : goal.returns
-returns c = let words = c.args.words.now in
-    let names = c.args.names.now in
-    let a = words_accepted words c.scan-found.result c.scan-found.ensures c.if-found-ne-ACCEPTED.false in
-    let p = c.wide.ensures.0 ∙ predicate_count words a in
-    let f = c.wide-2.ensures.0 ∙ function_count words a in
-    let named = c.names_reply-named.ensures ∙ ap₂ (λ (x y : ℕ). names_reply (names_of names x (x + y))) p f in
-    let room = length c.args.text.now in
-    let e = room_decides c.put_text-end.ensures ∙ sym (text_answered words names room (said words) (said_sound words a) c.names_reply-named.result named c.if-named-ne-ACCEPTED.false) in
-    (c.finish.ensures.value ∙ ap reply_of e, c.finish.ensures.left ∙ ap₂ text_in (put_length c.put_text-end.ensures) e)
+pub returns-in-Err : goal.returns-in-Err
+returns-in-Err c = let a = c.args in
+    let room = length a.text.now in
+    let w = text_refused room c.put_answer-answer.new.text c.in-Err.field-0 (answer_of a.words.now a.names.now room) c.in-Err.ensures.1 in
+    rw c.in-Err.is (w.0, c.clear-in-Err.ensures ∙ ap (λ (n : ℕ). in_room n []) c.in-Err.ensures.0 ∙ w.1)

@@ -9,8 +9,8 @@ use Rattle.written_lines.proofs.CellWalk.{Left}
 use Rattle.written_lines.proofs.atoms.put_arguments.Given as goal
 
 abbrev pub invariant-loop-left : goal.invariant-loop-left
-invariant-loop-left l = (a : Run l.functions l.cells l.count) → Left l.functions l.cells (encs a.terms) a.rest l.at l.left
-    × Put (behind_tabs (map (argument_token l.names l.predicates l.modes) (take l.at (encs a.terms)))) l.initial.out l.out l.from l.end
+invariant-loop-left l = (a : Run l.symbols.functions.now l.cells l.count) → Left l.symbols.functions.now l.cells (encs a.terms) a.rest l.at l.left
+    × Put (behind_tabs (map (argument_token l.symbols.names.now (length l.symbols.predicates.now) l.modes) (take l.at (encs a.terms)))) l.initial.out l.out l.from l.end
 
 abbrev pub decreases-loop-left : goal.decreases-loop-left
 decreases-loop-left l = length l.cells - l.at

@@ -2,7 +2,6 @@
 use Prim.Native.Nat.{ℕ}
 use mathlib.Core.Path.{subst}
 use mathlib.Core.List.{List}
-use native.Mathlib.Omega.{arith}
 use native.Mathlib.Numerals.{add-one}
 use Rattle.text.specs.Put.{Put}
 use Rattle.text.proofs.Puts.{put_append}
@@ -11,10 +10,7 @@ use Rattle.written_lines.proofs.lines.put_declarations.Goals as goal
 
 pub loop-i-preserved : goal.loop-i-preserved
 loop-i-preserved c = let a = c.args in
-    let i = c.loop-i.i in (
-      omega arith,
-      rw add-one
-          (subst (λ (t : List ℕ). Put t a.out.now c.put_declaration-end.new.out a.from c.put_declaration-end.result)
-          (declarations_more a.keyword.now a.names.now a.first a.arities.now i (omega arith))
-          (put_append c.loop-i.invariant.1 c.put_declaration-end.ensures)),
-    )
+    rw add-one
+    (subst (λ (t : List ℕ). Put t a.out.now c.put_declaration-end.new.out a.from c.put_declaration-end.result)
+    (declarations_more a.keyword.now a.names.now a.first a.arities.now c.loop-i.i c.loop-i-test.true)
+    (put_append c.loop-i.invariant c.put_declaration-end.ensures))

@@ -1,7 +1,0 @@
--- The loop's invariant: the bytes still to be read are the buffer's.
-use Rattle.std.proofs.Common.{◌≡◌, ◌≤◌, ◌*◌, length}
-use Rattle.program.specs.Limits.{row_size, max_rows}
-use Rattle.table_main.proofs.main.Given as goal
-
-abbrev pub invariant-loop : goal.invariant-loop
-invariant-loop l = (length l.words ≡ 2050) × (length l.table ≡ row_size * max_rows) × (length l.buffer ≡ 4096) × (l.input.end ≤ 4096)
