@@ -3,9 +3,8 @@ use Prim.Native.Nat.{ℕ, suc, ◌+◌, ◌-◌, ◌≤◌, ◌<◌}
 use mathlib.Core.Path.{◌≡◌, refl, sym, ap, ap₂, ◌∙◌}
 use mathlib.Core.List.{List, [], ◌∷◌, ◌++◌, append_assoc}
 use native.Mathlib.Omega.{arith}
-use lib.ListN.{length, get_or, take, drop, length-append, length-drop}
+use lib.ListN.{length, get_or, take, drop, length-append}
 use lib.Seq.{take_all}
-use Rattle.std.proofs.lemmas.List.{drop_more}
 use Rattle.terms.specs.Term.{Term, Terms, var, app, nil, cons, count, join}
 use Rattle.terms.specs.Cells.{enc, encs, Keepss, first_variable, variables, Run}
 use Rattle.terms.specs.Walk.{cells_of}
@@ -86,102 +85,70 @@ run_within arities cells n r =
     rw (run_terms arities cells n r) (omega (arith, simp length-append at (ap length r.cut)))
 
 module _ (arities : List ℕ) where
-  -- the first cell of a run, and the cells behind it
-  module _ (c : ℕ) (cs : List ℕ) (n : ℕ) (h : n ≡ 0 → ⊥) (r : Run arities (c ∷ cs) n) where
-    pub function_declared : c < first_variable → c < length arities
-    function_declared l = go (first_of arities c cs n h r)
-      where
-        go : First arities c cs n → c < length arities
-        go (variable v ts rest e b q k m) = absurd (omega arith)
-        go (function us ts rest b d a q k k' m) = d
+  pub function_declared : (cells : List ℕ) (n : ℕ) → (n ≡ 0 → ⊥) → Run arities cells n → get_or cells 0 0 < first_variable
+      → get_or cells 0 0 < length arities
+  function_declared [] n h r l = absurd (omega (arith, run_cell arities [] n h r))
+  function_declared (c ∷ cs) n h r l = go (first_of arities c cs n h r)
+    where
+      go : First arities c cs n → c < length arities
+      go (variable v ts rest e b q k m) = absurd (omega arith)
+      go (function us ts rest b d a q k k' m) = d
 
-    -- behind a function's cell stand its arguments and then the other terms
-    pub function_run : c < first_variable → Run arities cs (n - 1 + get_or arities c 0)
-    function_run l = go (first_of arities c cs n h r)
-      where
-        go : First arities c cs n → Run arities cs (n - 1 + get_or arities c 0)
-        go (variable v ts rest e b q k m) = absurd (omega arith)
-        go (function us ts rest b d a q k k' m) =
-            record { terms = join us ts; rest = rest; cut = q; keeps = keeps_join arities us ts k k'; many = omega (arith, count_join us ts) }
+  -- behind a function's cell stand its arguments and then the other terms
+  pub function_run : (cells : List ℕ) (n : ℕ) → (n ≡ 0 → ⊥) → Run arities cells n → get_or cells 0 0 < first_variable
+      → Run arities (behind cells) (n - 1 + get_or arities (get_or cells 0 0) 0)
+  function_run [] n h r l = absurd (omega (arith, run_cell arities [] n h r))
+  function_run (c ∷ cs) n h r l = rw behind_cons (go (first_of arities c cs n h r))
+    where
+      go : First arities c cs n → Run arities cs (n - 1 + get_or arities c 0)
+      go (variable v ts rest e b q k m) = absurd (omega arith)
+      go (function us ts rest b d a q k k' m) =
+          record { terms = join us ts; rest = rest; cut = q; keeps = keeps_join arities us ts k k'; many = omega (arith, count_join us ts) }
 
-    -- behind a variable's cell stand the other terms
-    pub variable_run : first_variable ≤ c → Run arities cs (n - 1)
-    variable_run l = go (first_of arities c cs n h r)
-      where
-        go : First arities c cs n → Run arities cs (n - 1)
-        go (variable v ts rest e b q k m) = record { terms = ts; rest = rest; cut = q; keeps = k; many = omega arith }
-        go (function us ts rest b d a q k k' m) = absurd (omega arith)
+  -- behind a variable's cell stand the other terms
+  pub variable_run : (cells : List ℕ) (n : ℕ) → (n ≡ 0 → ⊥) → Run arities cells n → first_variable ≤ get_or cells 0 0
+      → Run arities (behind cells) (n - 1)
+  variable_run [] n h r l = absurd (omega (arith, run_cell arities [] n h r))
+  variable_run (c ∷ cs) n h r l = rw behind_cons (go (first_of arities c cs n h r))
+    where
+      go : First arities c cs n → Run arities cs (n - 1)
+      go (variable v ts rest e b q k m) = record { terms = ts; rest = rest; cut = q; keeps = k; many = omega arith }
+      go (function us ts rest b d a q k k' m) = absurd (omega arith)
 
-    -- the cells of a run's terms: the first one, and those behind it
-    pub function_cells : c < first_variable → 1 + cells_of arities cs (n - 1 + get_or arities c 0) ≡ cells_of arities (c ∷ cs) n
-    function_cells l = go (first_of arities c cs n h r)
-      where
-        go : First arities c cs n → 1 + cells_of arities cs (n - 1 + get_or arities c 0) ≡ cells_of arities (c ∷ cs) n
-        go (variable v ts rest e b q k m) = absurd (omega arith)
-        go (function us ts rest b d a q k k' m) =
-            let e₁ = run_terms arities cs (n - 1 + get_or arities c 0)
-            (record { terms = join us ts; rest = rest; cut = q; keeps = keeps_join arities us ts k k'; many = omega (arith, count_join us ts) }) in
-            let e₂ = run_terms arities (c ∷ cs) n
-            (record {
-              terms = cons (app c us) ts;
-              rest = rest;
-              cut = ap (◌∷◌ c) (q ∙ ap (λ (x : List ℕ). x ++ rest) (encs_join us ts));
-              keeps = ((d, b, a, k), k');
-              many = sym m;
-            }) in
-            rw (e₁, e₂, encs_join) (omega arith)
+  -- the cells of a run's terms: the first one, and those behind it
+  pub function_cells : (cells : List ℕ) (n : ℕ) → (h : n ≡ 0 → ⊥) (r : Run arities cells n) (l : get_or cells 0 0 < first_variable)
+      → 1 + cells_of arities (behind cells) (n - 1 + get_or arities (get_or cells 0 0) 0) ≡ cells_of arities cells n
+  function_cells [] n h r l = absurd (omega (arith, run_cell arities [] n h r))
+  function_cells (c ∷ cs) n h r l = rw behind_cons (go (first_of arities c cs n h r))
+    where
+      go : First arities c cs n → 1 + cells_of arities cs (n - 1 + get_or arities c 0) ≡ cells_of arities (c ∷ cs) n
+      go (variable v ts rest e b q k m) = absurd (omega arith)
+      go (function us ts rest b d a q k k' m) =
+          let e₁ = run_terms arities cs (n - 1 + get_or arities c 0)
+          (record { terms = join us ts; rest = rest; cut = q; keeps = keeps_join arities us ts k k'; many = omega (arith, count_join us ts) }) in
+          let e₂ = run_terms arities (c ∷ cs) n
+          (record {
+            terms = cons (app c us) ts;
+            rest = rest;
+            cut = ap (◌∷◌ c) (q ∙ ap (λ (x : List ℕ). x ++ rest) (encs_join us ts));
+            keeps = ((d, b, a, k), k');
+            many = sym m;
+          }) in
+          rw (e₁, e₂, encs_join) (omega arith)
 
-    pub variable_cells : first_variable ≤ c → 1 + cells_of arities cs (n - 1) ≡ cells_of arities (c ∷ cs) n
-    variable_cells l = go (first_of arities c cs n h r)
-      where
-        go : First arities c cs n → 1 + cells_of arities cs (n - 1) ≡ cells_of arities (c ∷ cs) n
-        go (variable v ts rest e b q k m) =
-            let e₁ = run_terms arities cs (n - 1) (record { terms = ts; rest = rest; cut = q; keeps = k; many = omega arith }) in
-            let e₂ = run_terms arities (c ∷ cs) n
-            (record { terms = cons (var v) ts; rest = rest; cut = ap₂ ◌∷◌ e q; keeps = (b, k); many = sym m }) in
-            rw (e₁, e₂) (omega arith)
-        go (function us ts rest b d a q k k' m) = absurd (omega arith)
+  pub variable_cells : (cells : List ℕ) (n : ℕ) → (h : n ≡ 0 → ⊥) (r : Run arities cells n) (l : first_variable ≤ get_or cells 0 0)
+      → 1 + cells_of arities (behind cells) (n - 1) ≡ cells_of arities cells n
+  variable_cells [] n h r l = absurd (omega (arith, run_cell arities [] n h r))
+  variable_cells (c ∷ cs) n h r l = rw behind_cons (go (first_of arities c cs n h r))
+    where
+      go : First arities c cs n → 1 + cells_of arities cs (n - 1) ≡ cells_of arities (c ∷ cs) n
+      go (variable v ts rest e b q k m) =
+          let e₁ = run_terms arities cs (n - 1) (record { terms = ts; rest = rest; cut = q; keeps = k; many = omega arith }) in
+          let e₂ = run_terms arities (c ∷ cs) n
+          (record { terms = cons (var v) ts; rest = rest; cut = ap₂ ◌∷◌ e q; keeps = (b, k); many = sym m }) in
+          rw (e₁, e₂) (omega arith)
+      go (function us ts rest b d a q k k' m) = absurd (omega arith)
 
   -- a variable's cell is a term by itself
   pub variable_one : (cells : List ℕ) → Run arities cells 1 → first_variable ≤ get_or cells 0 0 → cells_of arities cells 1 ≡ 1
-  variable_one [] r l = absurd (omega (arith, run_cell arities [] 1 (λ e. omega arith) r))
-  variable_one (c ∷ cs) r l = sym (variable_cells c cs 1 (λ e. omega arith) r l)
-
--- a walk over the first n terms of a run: it has passed `end` cells, and `left` terms are to come
-pub record Walked (arities cells : List ℕ) (n end left : ℕ) : Type 0 where
-  pub within : end ≤ length cells
-  pub run : Run arities (drop end cells) left
-  pub ends : end + cells_of arities (drop end cells) left ≡ cells_of arities cells n
-
--- one cell more: it is there, a function's is declared, and there are never more terms to come than cells
-module _ {F R : List ℕ} {n end left : ℕ} (w : Walked F R n end left) (more : left ≡ 0 → ⊥) where
-  pub walked_cell : end < length R
-  walked_cell = omega (arith, run_cell F (drop end R) left more w.run, length-drop end R)
-
-  here : drop end R ≡ get_or R end 0 ∷ drop (end + 1) R
-  here = drop_more R end 0 walked_cell
-
-  from_here : Run F (get_or R end 0 ∷ drop (end + 1) R) left
-  from_here = rw here at w.run
-
-  pub walked_declared : get_or R end 0 < first_variable → get_or R end 0 < length F
-  walked_declared l = function_declared F (get_or R end 0) (drop (end + 1) R) left more from_here l
-
-  pub walked_function : get_or R end 0 < first_variable → Walked F R n (end + 1) (left - 1 + get_or F (get_or R end 0) 0)
-  walked_function l =
-      record {
-        within = omega (arith, walked_cell);
-        run = function_run F (get_or R end 0) (drop (end + 1) R) left more from_here l;
-        ends = omega (arith, function_cells F (get_or R end 0) (drop (end + 1) R) left more from_here l, rw here at w.ends);
-      }
-
-  pub walked_variable : first_variable ≤ get_or R end 0 → Walked F R n (end + 1) (left - 1)
-  walked_variable l =
-      record {
-        within = omega (arith, walked_cell);
-        run = variable_run F (get_or R end 0) (drop (end + 1) R) left more from_here l;
-        ends = omega (arith, variable_cells F (get_or R end 0) (drop (end + 1) R) left more from_here l, rw here at w.ends);
-      }
-
-pub walked_many : {F R : List ℕ} {n end left : ℕ} → Walked F R n end left → left + end ≤ length R
-walked_many {F} {R} {end = end} {left = left} w = omega (arith, run_many F (drop end R) left w.run, length-drop end R, w.within)
+  variable_one cells r l = sym (variable_cells cells 1 (λ e. omega arith) r l)

@@ -1,110 +1,113 @@
--- The walks for variables, a cell at a time: what a cell adds to what the cells before it have.
-use Prim.Native.Nat.{ℕ, zero, suc, ◌+◌, ◌-◌, ◌^◌, ◌≤◌, ◌<◌}
-use mathlib.Core.Path.{◌≡◌}
+-- The walks for variables, a cell at a time: what the first cell adds to what the cells behind it have.
+use Prim.Native.Nat.{ℕ, suc, ◌+◌, ◌-◌, ◌^◌, ◌≤◌, ◌<◌}
+use mathlib.Core.Path.{◌≡◌, refl}
 use mathlib.Core.Logic.{◌⊎◌, inl, inr, ◌↔◌, ⊎_elim}
-use mathlib.Core.Bool.{Bool, true, false}
 use mathlib.Core.List.{List, [], ◌∷◌}
-use native.Mathlib.Decide.{ℕ_discrete}
 use native.Mathlib.Omega.{arith}
 use lib.ListN.{length, get_or, take}
 use lib.Bits.{bit_or}
-use lib.Dec.{T}
-use Rattle.std.proofs.Common.{MatchBool}
-use Rattle.std.specs.List.{AllWithin, HoldsAt}
 use Rattle.terms.specs.Cells.{first_variable}
-use Rattle.terms.specs.Mask.{Has, Marks}
-use Rattle.terms.specs.Walk.{InRun, InSets}
-use Rattle.terms.proofs.Masks.{has_or, has_one}
+use Rattle.terms.specs.Mask.{Has}
+use Rattle.terms.specs.Walk.{InRun, Cells, Present, InSets}
+use Rattle.terms.proofs.Masks.{has_none, has_or, has_one}
+use Rattle.terms.proofs.Steps.{behind, behind_cons}
 
--- the variable v is in the first i cells
-abbrev pub Seen : List ℕ → ℕ → ℕ → Type 0
-Seen cells i v = (k : ℕ) × (k < i) × (get_or cells k 0 ≡ first_variable + v)
+-- nothing is in a run without cells
+pub no_cells_law : (cells : List ℕ) (v : ℕ) → length cells ≡ 0 → InRun v cells → ⊥
+no_cells_law [] v e o = o
+no_cells_law (c ∷ cs) v e o = omega arith
 
--- with every cell passed, the variables seen are those of the run
-pub seen_in : (cells : List ℕ) (v k : ℕ) → k < length cells → get_or cells k 0 ≡ first_variable + v → InRun v cells
-seen_in [] v k l e = absurd (omega arith)
-seen_in (c ∷ cs) v zero l e = inl e
-seen_in (c ∷ cs) v (suc k) l e = inr (seen_in cs v k (omega arith) e)
+-- in a run: in its first cell, or behind it
+pub in_run : (cells : List ℕ) (v : ℕ) → 0 < length cells → InRun v cells ↔ ((get_or cells 0 0 ≡ first_variable + v) ⊎ InRun v (behind cells))
+in_run [] v h = absurd (omega arith)
+in_run (c ∷ cs) v h = rw behind_cons (λ o. o, λ o. o)
 
-pub in_seen : (cells : List ℕ) (v : ℕ) → InRun v cells → Seen cells (length cells) v
-in_seen [] v o = absurd o
-in_seen (c ∷ cs) v (inl e) = (0, omega arith, e)
-in_seen (c ∷ cs) v (inr o) = let s = in_seen cs v o in (suc s.0, omega (arith, s.1), s.2)
+pub cells_behind : (cells : List ℕ) → 0 < length cells → Cells cells → Cells (behind cells)
+cells_behind [] h k = absurd (omega arith)
+cells_behind (c ∷ cs) h k = rw behind_cons (λ i l. k (suc i) (omega arith))
 
-module _ (cells : List ℕ) (i : ℕ) where
-  earlier : (v : ℕ) → Seen cells i v → Seen cells (i + 1) v
-  earlier v o = (o.0, omega (arith, o.1), o.2)
+-- the part behind the first cell is shorter
+pub behind_shorter : (cells : List ℕ) → 0 < length cells → length (behind cells) < length cells
+behind_shorter [] h = absurd (omega arith)
+behind_shorter (c ∷ cs) h = rw behind_cons (omega arith)
 
-  here : first_variable ≤ get_or cells i 0 → Seen cells (i + 1) (get_or cells i 0 - first_variable)
-  here l = (i, omega arith, omega arith)
+-- behind a function's cell stand all variables of the run
+pub in_behind : (cells : List ℕ) (v : ℕ) → 0 < length cells → get_or cells 0 0 < first_variable → InRun v cells ↔ InRun v (behind cells)
+in_behind cells v h l = (λ o. go ((in_run cells v h).0 o), λ o. (in_run cells v h).1 (inr o))
+  where
+    go : (get_or cells 0 0 ≡ first_variable + v) ⊎ InRun v (behind cells) → InRun v (behind cells)
+    go (inl e) = absurd (omega arith)
+    go (inr o) = o
 
-  -- one cell more: a function's is no variable's
-  seen_function : (v : ℕ) → get_or cells i 0 < first_variable → Seen cells (i + 1) v → Seen cells i v
-  seen_function v l o = at (ℕ_discrete o.0 i)
-    where
-      at : Dec (o.0 ≡ i) → Seen cells i v
-      at (yes e) = let q : get_or cells i 0 ≡ first_variable + v = rw e at o.2 in absurd (omega arith)
-      at (no n) = (o.0, omega (arith, o.1), o.2)
+-- a variable's cell adds its variable
+pub in_variable : (cells : List ℕ) (v : ℕ) → 0 < length cells → first_variable ≤ get_or cells 0 0
+    → InRun v cells ↔ (InRun v (behind cells) ⊎ (v ≡ get_or cells 0 0 - first_variable))
+in_variable cells v h l = (λ o. there ((in_run cells v h).0 o), λ o. (in_run cells v h).1 (back o))
+  where
+    there : (get_or cells 0 0 ≡ first_variable + v) ⊎ InRun v (behind cells) → InRun v (behind cells) ⊎ (v ≡ get_or cells 0 0 - first_variable)
+    there (inl e) = inr (omega arith)
+    there (inr o) = inl o
 
-  seen_variable : (v : ℕ) → first_variable ≤ get_or cells i 0 → Seen cells (i + 1) v → Seen cells i v ⊎ (v ≡ get_or cells i 0 - first_variable)
-  seen_variable v l o = at (ℕ_discrete o.0 i)
-    where
-      at : Dec (o.0 ≡ i) → Seen cells i v ⊎ (v ≡ get_or cells i 0 - first_variable)
-      at (yes e) = let q : get_or cells i 0 ≡ first_variable + v = rw e at o.2 in inr (omega arith)
-      at (no n) = inl (o.0, omega (arith, o.1), o.2)
+    back : InRun v (behind cells) ⊎ (v ≡ get_or cells 0 0 - first_variable) → (get_or cells 0 0 ≡ first_variable + v) ⊎ InRun v (behind cells)
+    back (inl o) = inr o
+    back (inr e) = inl (omega arith)
 
-  -- the set of the variables seen
-  pub present_function : (s : ℕ) → get_or cells i 0 < first_variable → Marks (Seen cells i) s → Marks (Seen cells (i + 1)) s
-  present_function s l p v = (λ h. earlier v ((p v).0 h), λ o. (p v).1 (seen_function v l o))
+pub present_none : (cells : List ℕ) → length cells ≡ 0 → Present cells 0
+present_none cells e v = (λ h. absurd (has_none v h), λ o. absurd (no_cells_law cells v e o))
 
-  pub present_variable : (s : ℕ) → first_variable ≤ get_or cells i 0 → Marks (Seen cells i) s
-      → Marks (Seen cells (i + 1)) (bit_or s (2 ^ (get_or cells i 0 - first_variable)))
-  present_variable s l p v = (
-    λ h. ⊎_elim (λ o. earlier v ((p v).0 o)) (λ o. let e = (has_one x v).0 o in rw e (here l)) ((has_or s (2 ^ x) v).0 h),
-    λ o. (has_or s (2 ^ x) v).1 (⊎_elim (λ o. inl ((p v).1 o)) (λ e. inr ((has_one x v).1 e)) (seen_variable v l o)),
-  )
-    where
-      x : ℕ
-      x = get_or cells i 0 - first_variable
+pub present_function : (cells : List ℕ) (later : ℕ) → 0 < length cells → get_or cells 0 0 < first_variable → Present (behind cells) later → Present cells later
+present_function cells later h l p v =
+    (λ b. (in_behind cells v h l).1 ((p v).0 b), λ o. (p v).1 ((in_behind cells v h l).0 o))
 
-pub present_all : (cells : List ℕ) (s : ℕ) → Marks (Seen cells (length cells)) s → Marks (λ v. InRun v cells) s
-present_all cells s p v = (λ h. let o = (p v).0 h in seen_in cells v o.0 o.1 o.2, λ o. (p v).1 (in_seen cells v o))
+pub present_variable : (cells : List ℕ) (later : ℕ) → 0 < length cells → first_variable ≤ get_or cells 0 0 → Present (behind cells) later
+    → Present cells (bit_or later (2 ^ (get_or cells 0 0 - first_variable)))
+present_variable cells later h l p v = (
+  (λ b. (in_variable cells v h l).1 (there ((has_or later (2 ^ x) v).0 b))),
+  (λ o. (has_or later (2 ^ x) v).1 (back ((in_variable cells v h l).0 o))),
+)
+  where
+    x : ℕ
+    x = get_or cells 0 0 - first_variable
+
+    there : Has later v ⊎ Has (2 ^ x) v → InRun v (behind cells) ⊎ (v ≡ x)
+    there (inl b) = inl ((p v).0 b)
+    there (inr b) = inr ((has_one x v).0 b)
+
+    back : InRun v (behind cells) ⊎ (v ≡ x) → Has later v ⊎ Has (2 ^ x) v
+    back (inl o) = inl ((p v).1 o)
+    back (inr e) = inr ((has_one x v).1 e)
 
 -- the union of the sets of a run's variables, that of v at base + v
 abbrev pub Union : List ℕ → ℕ → List ℕ → ℕ → Type 0
 Union cells base sets u = (z : ℕ) → Has u z ↔ InSets cells base sets z
 
--- the union of the sets of the variables seen
-abbrev pub Gathered : List ℕ → ℕ → List ℕ → ℕ → ℕ → Type 0
-Gathered cells base sets i u = (z : ℕ) → Has u z ↔ ((v : ℕ) × Seen cells i v × Has (get_or sets (base + v) 0) z)
+pub union_none : (cells : List ℕ) (base : ℕ) (sets : List ℕ) → length cells ≡ 0 → Union cells base sets 0
+union_none cells base sets e z = (λ h. absurd (has_none z h), λ o. absurd (no_cells_law cells o.0 e o.1))
 
-module _ (cells : List ℕ) (base : ℕ) (sets : List ℕ) (i u : ℕ) where
-  pub union_function : get_or cells i 0 < first_variable → Gathered cells base sets i u → Gathered cells base sets (i + 1) u
-  union_function l p z = (
-    λ h. let o = (p z).0 h in (o.0, earlier cells i o.0 o.1, o.2),
-    λ o. (p z).1 (o.0, seen_function cells i o.0 l o.1, o.2),
-  )
-
-  pub union_variable : first_variable ≤ get_or cells i 0 → Gathered cells base sets i u
-      → Gathered cells base sets (i + 1) (bit_or u (get_or sets (base + (get_or cells i 0 - first_variable)) 0))
-  union_variable l p z = (λ h. there ((has_or u new z).0 h), λ o. (has_or u new z).1 (back o.0 o.2 (seen_variable cells i o.0 l o.1)))
-    where
-      new : ℕ
-      new = get_or sets (base + (get_or cells i 0 - first_variable)) 0
-
-      there : Has u z ⊎ Has new z → (v : ℕ) × Seen cells (i + 1) v × Has (get_or sets (base + v) 0) z
-      there (inl b) = let o = (p z).0 b in (o.0, earlier cells i o.0 o.1, o.2)
-      there (inr b) = (get_or cells i 0 - first_variable, here cells i l, b)
-
-      back : (v : ℕ) → Has (get_or sets (base + v) 0) z → Seen cells i v ⊎ (v ≡ get_or cells i 0 - first_variable) → Has u z ⊎ Has new z
-      back v b (inl o) = inl ((p z).1 (v, o, b))
-      back v b (inr e) = inr (rw e at b)
-
-pub union_all : (cells : List ℕ) (base : ℕ) (sets : List ℕ) (u : ℕ) → Gathered cells base sets (length cells) u → Union cells base sets u
-union_all cells base sets u p z = (
-  λ h. let o = (p z).0 h in (o.0, seen_in cells o.0 o.1.0 o.1.1 o.1.2, o.2),
-  λ o. (p z).1 (o.0, in_seen cells o.0 o.1, o.2),
+pub union_function : (cells : List ℕ) (base : ℕ) (sets : List ℕ) (later : ℕ) → 0 < length cells → get_or cells 0 0 < first_variable
+    → Union (behind cells) base sets later → Union cells base sets later
+union_function cells base sets later h l p z = (
+  (λ b. let o = (p z).0 b in (o.0, (in_behind cells o.0 h l).1 o.1, o.2)),
+  (λ o. (p z).1 (o.0, (in_behind cells o.0 h l).0 o.1, o.2)),
 )
+
+pub union_variable : (cells : List ℕ) (base : ℕ) (sets : List ℕ) (later : ℕ) → 0 < length cells → first_variable ≤ get_or cells 0 0
+    → Union (behind cells) base sets later → Union cells base sets (bit_or later (get_or sets (base + (get_or cells 0 0 - first_variable)) 0))
+union_variable cells base sets later h l p z = (
+  (λ b. there ((has_or later (get_or sets (base + x) 0) z).0 b)),
+  (λ o. (has_or later (get_or sets (base + x) 0) z).1 (back o.0 ((in_variable cells o.0 h l).0 o.1) o.2)),
+)
+  where
+    x : ℕ
+    x = get_or cells 0 0 - first_variable
+
+    there : Has later z ⊎ Has (get_or sets (base + x) 0) z → InSets cells base sets z
+    there (inl b) = let o = (p z).0 b in (o.0, (in_variable cells o.0 h l).1 (inl o.1), o.2)
+    there (inr b) = (x, (in_variable cells x h l).1 (inr refl), b)
+
+    back : (v : ℕ) → InRun v (behind cells) ⊎ (v ≡ x) → Has (get_or sets (base + v) 0) z → Has later z ⊎ Has (get_or sets (base + x) 0) z
+    back v (inl o) b = inl ((p z).1 (v, o, b))
+    back v (inr e) b = inr (rw e at b)
 
 -- of a variable's cell alone it is that variable's set
 pub union_one : (cells : List ℕ) (base : ℕ) (sets : List ℕ) → 0 < length cells → first_variable ≤ get_or cells 0 0
@@ -116,21 +119,11 @@ union_one (c ∷ cs) base sets h l =
     at : (z v : ℕ) → c ≡ first_variable + v → Has (get_or sets (base + v) 0) z → Has (get_or sets (base + (c - first_variable)) 0) z
     at z v e b = let q : c - first_variable ≡ v = omega arith in rw q b
 
--- a function's cell, or a variable's whose variable is in the set; and a variable's whose is not
-abbrev pub Inside : ℕ → ℕ → Type 0
-Inside set c = first_variable ≤ c → Has set (c - first_variable)
-
-abbrev pub Outside : ℕ → ℕ → Type 0
-Outside set c = (first_variable ≤ c) × (Has set (c - first_variable) → ⊥)
-
-pub all_inside : (cells : List ℕ) (set : ℕ) (r : Bool)
-    → MatchBool r (AllWithin (Inside set) cells 0 (length cells)) ((k : ℕ) × (k < length cells) × HoldsAt (Outside set) cells k)
-    → T r ↔ ((v : ℕ) → InRun v cells → Has set v)
-all_inside cells set true h = (λ _ v o. let s = in_seen cells v o in at v s.0 s.2 (h s.0 0 (omega arith) s.1), λ _. tt)
+-- every variable of a run is in a set: the first cell's, and those behind it
+pub inside_variable : (cells : List ℕ) (set : ℕ) → 0 < length cells → first_variable ≤ get_or cells 0 0 → Has set (get_or cells 0 0 - first_variable)
+    → ((v : ℕ) → InRun v (behind cells) → Has set v) → (v : ℕ) → InRun v cells → Has set v
+inside_variable cells set h l b a v o = go ((in_variable cells v h l).0 o)
   where
-    at : (v k : ℕ) → get_or cells k 0 ≡ first_variable + v → Inside set (get_or cells k 0) → Has set v
-    at v k e b = let q : get_or cells k 0 - first_variable ≡ v = omega arith in rw q at (b (omega arith))
-all_inside cells set false h =
-    let o = h.2 0 in
-    let v = get_or cells h.0 0 - first_variable in
-    (λ z. absurd z, λ a. absurd (o.1 (a v (seen_in cells v h.0 h.1 (let l = o.0 in omega arith)))))
+    go : InRun v (behind cells) ⊎ (v ≡ get_or cells 0 0 - first_variable) → Has set v
+    go (inl q) = a v q
+    go (inr e) = rw e b

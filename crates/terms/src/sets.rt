@@ -7,10 +7,10 @@ use crate::unifier::{ALONE, Atoms, NO_PLACE, replace};
 impl Atoms<'_, '_> {
     // The sets of a store that unification left, made from its bindings alone: nothing is compared. Every set that has a bound variable loses it and gains
     // the set of what it is bound to; the order of the variables does not matter.
-    pub fn sets_of(self, places: &[u8; 32], sets: &mut [u32; 32])
-        requires { StoreOf self.functions.now self.a.now self.b.now places.now }
-        ensures { (A B : Term) → Bindings self.entry.functions.now self.entry.a.now self.entry.b.now A B places.now
-            → Unified self.entry.functions.now self.entry.a.now self.entry.b.now A B places.now sets.new }
+    pub fn sets_of(&self, places: &[u8; 32], sets: &mut [u32; 32])
+        requires { StoreOf self.now.functions.now self.now.a.now self.now.b.now places.now }
+        ensures { (A B : Term) → Bindings self.now.functions.now self.now.a.now self.now.b.now A B places.now
+            → Unified self.now.functions.now self.now.a.now self.now.b.now A B places.now sets.new }
     {
         *sets = ALONE;
         for (x, place) in places.iter().enumerate() {

@@ -83,9 +83,9 @@ pub struct Atoms<'a, 'f> {
 
 impl<'a, 'f> Atoms<'a, 'f> {
     // The cell at a place.
-    fn cell_at(self, place: usize) -> u16
-        requires { 0 < length (cells_at self.a.now self.b.now place) }
-        ensures { result ≡ get_or (cells_at self.entry.a.now self.entry.b.now place) 0 0 }
+    fn cell_at(&self, place: usize) -> u16
+        requires { 0 < length (cells_at self.now.a.now self.now.b.now place) }
+        ensures { result ≡ get_or (cells_at self.now.a.now self.now.b.now place) 0 0 }
     {
         if place < SECOND_ATOM {
             return self.a[place];
@@ -93,9 +93,9 @@ impl<'a, 'f> Atoms<'a, 'f> {
         self.b[place - SECOND_ATOM]
     }
 
-    fn look_at(self, places: &[u8; 32], place: usize) -> Look
-        requires { CellAt self.a.now self.b.now place }
-        ensures { result ≡ look_at self.entry.a.now self.entry.b.now places.now place }
+    fn look_at(&self, places: &[u8; 32], place: usize) -> Look
+        requires { CellAt self.now.a.now self.now.b.now place }
+        ensures { result ≡ look_at self.now.a.now self.now.b.now places.now place }
     {
         let cell = self.cell_at(place);
         if cell < FIRST_VARIABLE {
@@ -111,9 +111,9 @@ impl<'a, 'f> Atoms<'a, 'f> {
     }
 
     // The cells from a place on.
-    fn cells_from(self, place: usize) -> &'a [u16]
-        requires { 0 < length (cells_at self.a.now self.b.now place) }
-        ensures { result.now ≡ cells_at self.entry.a.now self.entry.b.now place }
+    fn cells_from(&self, place: usize) -> &'a [u16]
+        requires { 0 < length (cells_at self.now.a.now self.now.b.now place) }
+        ensures { result.now ≡ cells_at self.now.a.now self.now.b.now place }
     {
         if place < SECOND_ATOM {
             return &self.a[place..];
@@ -122,20 +122,20 @@ impl<'a, 'f> Atoms<'a, 'f> {
     }
 
     // What a binding stands for as written: "the run of cells itself, in the call's atom or in the clause's atom".
-    pub fn resolve(self, place: usize) -> &'a [u16]
-        requires { (Run self.functions.now (cells_at self.a.now self.b.now place) 1) × (place < 128) }
-        ensures { result.now ≡ take (cells_of self.entry.functions.now (cells_at self.entry.a.now self.entry.b.now place) 1)
-            (cells_at self.entry.a.now self.entry.b.now place) }
+    pub fn resolve(&self, place: usize) -> &'a [u16]
+        requires { (Run self.now.functions.now (cells_at self.now.a.now self.now.b.now place) 1) × (place < 128) }
+        ensures { result.now ≡ take (cells_of self.now.functions.now (cells_at self.now.a.now self.now.b.now place) 1)
+            (cells_at self.now.a.now self.now.b.now place) }
     {
         let run = self.cells_from(place);
         &run[..terms_end(run, self.functions, 1)]
     }
 
     // The set of what the term at a place stands for: a variable's own, or the union of those of the term's variables.
-    pub fn set_at(self, place: usize, sets: &[u32; 32]) -> u32
-        requires { (Run self.functions.now (cells_at self.a.now self.b.now place) 1) × (place < 128) × (length self.a.now ≤ 32) }
-        ensures { (z : ℕ) → Has result z ↔ InSets (take (cells_of self.entry.functions.now (cells_at self.entry.a.now self.entry.b.now place) 1)
-            (cells_at self.entry.a.now self.entry.b.now place)) (base_of place) sets.now z }
+    pub fn set_at(&self, place: usize, sets: &[u32; 32]) -> u32
+        requires { (Run self.now.functions.now (cells_at self.now.a.now self.now.b.now place) 1) × (place < 128) × (length self.now.a.now ≤ 32) }
+        ensures { (z : ℕ) → Has result z ↔ InSets (take (cells_of self.now.functions.now (cells_at self.now.a.now self.now.b.now place) 1)
+            (cells_at self.now.a.now self.now.b.now place)) (base_of place) sets.now z }
     {
         let cell = self.cell_at(place);
         if FIRST_VARIABLE <= cell {
@@ -145,10 +145,10 @@ impl<'a, 'f> Atoms<'a, 'f> {
     }
 
     // Binds the unbound variable x to the term at a place; false where x occurs in what that stands for.
-    fn bind(self, x: usize, place: usize, places: &mut [u8; 32], sets: &mut [u32; 32]) -> bool
-        requires { Bindable self.functions.now self.a.now self.b.now places.old sets.old x place }
-        ensures { Outcome self.entry.functions.now self.entry.a.now self.entry.b.now places.old sets.old
-            (cons (var x) nil) (cons (first_term (terms_at self.entry.functions.now self.entry.a.now self.entry.b.now place)) nil)
+    fn bind(&self, x: usize, place: usize, places: &mut [u8; 32], sets: &mut [u32; 32]) -> bool
+        requires { Bindable self.now.functions.now self.now.a.now self.now.b.now places.old sets.old x place }
+        ensures { Outcome self.now.functions.now self.now.a.now self.now.b.now places.old sets.old
+            (cons (var x) nil) (cons (first_term (terms_at self.now.functions.now self.now.a.now self.now.b.now place)) nil)
             result places.new sets.new }
     {
         let gained = self.set_at(place, sets);
@@ -161,10 +161,10 @@ impl<'a, 'f> Atoms<'a, 'f> {
     }
 
     // Where the next term stands behind the one at a place: a variable is one cell.
-    fn after(self, place: usize) -> usize
-        requires { (Run self.functions.now (cells_at self.a.now self.b.now place) 1) × (place < 128)
-            × (length (cells_at self.a.now self.b.now place) ≤ 32) }
-        ensures { result ≡ place + cells_of self.entry.functions.now (cells_at self.entry.a.now self.entry.b.now place) 1 }
+    fn after(&self, place: usize) -> usize
+        requires { (Run self.now.functions.now (cells_at self.now.a.now self.now.b.now place) 1) × (place < 128)
+            × (length (cells_at self.now.a.now self.now.b.now place) ≤ 32) }
+        ensures { result ≡ place + cells_of self.now.functions.now (cells_at self.now.a.now self.now.b.now place) 1 }
     {
         if FIRST_VARIABLE <= self.cell_at(place) {
             return place + 1;
@@ -174,9 +174,9 @@ impl<'a, 'f> Atoms<'a, 'f> {
 
     // The terms at two places, both followed to an unbound variable or a function: "Two terms are compared through their arguments".
     #[cycle(unify_term_unify_terms)]
-    fn unify_term(self, s: usize, t: usize, places: &mut [u8; 32], sets: &mut [u32; 32]) -> bool
-        requires { Comparable self.functions.now self.a.now self.b.now places.old sets.old s t 1 }
-        ensures { Compared self.entry.functions.now self.entry.a.now self.entry.b.now places.old sets.old s t 1 result places.new sets.new }
+    fn unify_term(&self, s: usize, t: usize, places: &mut [u8; 32], sets: &mut [u32; 32]) -> bool
+        requires { Comparable self.now.functions.now self.now.a.now self.now.b.now places.old sets.old s t 1 }
+        ensures { Compared self.now.functions.now self.now.a.now self.now.b.now places.old sets.old s t 1 result places.new sets.new }
     {
         match (self.look_at(places, s), self.look_at(places, t)) {
             (Look::Bound(p), _) => self.unify_term(p, t, places, sets),
@@ -198,15 +198,15 @@ impl<'a, 'f> Atoms<'a, 'f> {
     // The first n terms at two places, pair by pair in prefix order as written: "and argument runs through their terms".
     #[cycle(unify_term_unify_terms)]
     fn unify_terms(
-        self,
+        &self,
         s: usize,
         t: usize,
         n: usize,
         places: &mut [u8; 32],
         sets: &mut [u32; 32],
     ) -> bool
-        requires { Comparable self.functions.now self.a.now self.b.now places.old sets.old s t n }
-        ensures { Compared self.entry.functions.now self.entry.a.now self.entry.b.now places.old sets.old s t n result places.new sets.new }
+        requires { Comparable self.now.functions.now self.now.a.now self.now.b.now places.old sets.old s t n }
+        ensures { Compared self.now.functions.now self.now.a.now self.now.b.now places.old sets.old s t n result places.new sets.new }
     {
         let mut first = s;
         let mut second = t;
@@ -222,9 +222,9 @@ impl<'a, 'f> Atoms<'a, 'f> {
 
     // A most general unifier of the two atoms, or false where they are apart: "with the occurs check, the two atoms' variables kept apart".
     // The answer stands beside the lent store, and is no option, as `Unification` has it.
-    pub fn unify(self, predicates: &[u16], places: &mut [u8; 32], sets: &mut [u32; 32]) -> bool
-        requires { BothAtoms predicates.now self.functions.now self.a.now self.b.now }
-        ensures { Unification predicates.now self.entry.functions.now self.entry.a.now self.entry.b.now result places.new sets.new }
+    pub fn unify(&self, predicates: &[u16], places: &mut [u8; 32], sets: &mut [u32; 32]) -> bool
+        requires { BothAtoms predicates.now self.now.functions.now self.now.a.now self.now.b.now }
+        ensures { Unification predicates.now self.now.functions.now self.now.a.now self.now.b.now result places.new sets.new }
     {
         *places = [NO_PLACE; 32];
         *sets = ALONE;

@@ -20,18 +20,16 @@ pub fn terms_end(run: &[u16], functions: &[u16], n: usize) -> usize
     requires { Run functions.now run.now n }
     ensures { result ≡ cells_of functions.now run.now n }
 {
-    let mut left = n;
-    let mut end = 0;
-    // A `while`: a function's cell asks for terms of its own, so that no range says how many cells there are.
-    while left != 0 {
-        let cell = run[end];
-        left -= 1;
-        if cell < FIRST_VARIABLE {
-            left += usize::from(functions[usize::from(cell)]);
-        }
-        end += 1;
+    if n == 0 {
+        return 0;
     }
-    end
+    let cell = run[0];
+    let opened = if cell < FIRST_VARIABLE {
+        usize::from(functions[usize::from(cell)])
+    } else {
+        0
+    };
+    1 + terms_end(&run[1..], functions, n - 1 + opened)
 }
 
 // The set that has the variable v alone.
@@ -47,13 +45,15 @@ pub fn present(run: &[u16]) -> u32
     requires { Cells run.now }
     ensures { Present run.now result }
 {
-    let mut set = 0;
-    for cell in run {
-        if FIRST_VARIABLE <= *cell {
-            set |= only(usize::from(*cell - FIRST_VARIABLE));
-        }
+    if run.len() == 0 {
+        return 0;
     }
-    set
+    let later = present(&run[1..]);
+    let cell = run[0];
+    if cell < FIRST_VARIABLE {
+        return later;
+    }
+    later | only(usize::from(cell - FIRST_VARIABLE))
 }
 
 // Whether the set has the variable.
@@ -69,7 +69,18 @@ pub fn all_in(run: &[u16], set: u32) -> bool
     requires { Cells run.now }
     ensures { T result ↔ ((v : ℕ) → InRun v run.now → Has set v) }
 {
-    run.iter().all(|cell| *cell < FIRST_VARIABLE || has(set, usize::from(*cell - FIRST_VARIABLE)))
+    if run.len() == 0 {
+        return true;
+    }
+    let cell = run[0];
+    if cell < FIRST_VARIABLE {
+        return all_in(&run[1..], set);
+    }
+    if has(set, usize::from(cell - FIRST_VARIABLE)) {
+        all_in(&run[1..], set)
+    } else {
+        false
+    }
 }
 
 // The union of the sets of the run's variables; the set of variable v is at `base` + v.
@@ -77,11 +88,13 @@ pub fn union_of(run: &[u16], base: usize, sets: &[u32; 32]) -> u32
     requires { (Cells run.now) × (base ≤ 16) }
     ensures { (z : ℕ) → Has result z ↔ InSets run.now base sets.now z }
 {
-    let mut union = 0;
-    for cell in run {
-        if FIRST_VARIABLE <= *cell {
-            union |= sets[base + usize::from(*cell - FIRST_VARIABLE)];
-        }
+    if run.len() == 0 {
+        return 0;
     }
-    union
+    let later = union_of(&run[1..], base, sets);
+    let cell = run[0];
+    if cell < FIRST_VARIABLE {
+        return later;
+    }
+    later | sets[base + usize::from(cell - FIRST_VARIABLE)]
 }

@@ -13,18 +13,18 @@ use Rattle.terms.proofs.unifier.Atoms.+unify_term_unify_terms.Goals as goal
 
 pub unify_term-look_at-requires : goal.unify_term-look_at-requires
 unify_term-look_at-requires t c =
-    let F = c.args.self.functions.now in
-    let a = c.args.self.a.now in
-    let b = c.args.self.b.now in
+    let F = c.args.self.now.functions.now in
+    let a = c.args.self.now.a.now in
+    let b = c.args.self.now.b.now in
     let s = c.args.s in
     let R = c.requires in
     cell_at F a b s R.store.first_short R.first_run
 
 pub unify_term-look_at-requires-2 : goal.unify_term-look_at-requires-2
 unify_term-look_at-requires-2 t c =
-    let F = c.args.self.functions.now in
-    let a = c.args.self.a.now in
-    let b = c.args.self.b.now in
+    let F = c.args.self.now.functions.now in
+    let a = c.args.self.now.a.now in
+    let b = c.args.self.now.b.now in
     let t = c.args.t in
     let R = c.requires in
     cell_at F a b t R.store.first_short R.second_run
@@ -154,12 +154,12 @@ unify_terms-returns-then-not-unify_term t c = let k = c.args.n - (c.loop.counter
 pub unify_terms-after-first-requires : goal.unify_terms-after-first-requires
 unify_terms-after-first-requires t c = let G = c.loop.invariant in
     let O = going_pair G (c.args.n - (c.loop.counter + 1)) (omega arith) in
-    (O.first_run, O.first_place, short_at c.args.self.a.now c.args.self.b.now c.loop.first O.store.first_short O.store.second_short)
+    (O.first_run, O.first_place, short_at c.args.self.now.a.now c.args.self.now.b.now c.loop.first O.store.first_short O.store.second_short)
 
 pub unify_terms-after-second-requires : goal.unify_terms-after-second-requires
 unify_terms-after-second-requires t c = let G = c.loop.invariant in
     let O = going_pair G (c.args.n - (c.loop.counter + 1)) (omega arith) in
-    (O.second_run, O.second_place, short_at c.args.self.a.now c.args.self.b.now c.loop.second O.store.first_short O.store.second_short)
+    (O.second_run, O.second_place, short_at c.args.self.now.a.now c.args.self.now.b.now c.loop.second O.store.first_short O.store.second_short)
 
 pub unify_terms-loop-preserved : goal.unify_terms-loop-preserved
 unify_terms-loop-preserved t c = let k = c.args.n - (c.loop.counter + 1) in

@@ -8,7 +8,7 @@ use Rattle.terms.proofs.Places.{run_length}
 use Rattle.terms.proofs.unifier.Atoms.after.Goals as goal
 
 pub cell_at-requires : goal.cell_at-requires
-cell_at-requires c = run_cell c.args.self.functions.now _ 1 (λ e. omega arith) c.requires.0
+cell_at-requires c = run_cell c.args.self.now.functions.now _ 1 (λ e. omega arith) c.requires.0
 
 pub returns : goal.returns
-returns c = ap (λ (n : ℕ). c.args.place + n) (ap length c.resolve.ensures ∙ sym (run_length c.args.self.functions.now _ c.requires.0))
+returns c = ap (λ (n : ℕ). c.args.place + n) (ap length c.resolve.ensures ∙ sym (run_length c.args.self.now.functions.now _ c.requires.0))

@@ -8,8 +8,8 @@ use Rattle.terms.proofs.Bound.{parted_bound, joined_bound}
 use Rattle.terms.proofs.unifier.Atoms.bind.Goals as goal
 
 pub returns-then-has : goal.returns-then-has
-returns-then-has c = let F = c.args.self.functions.now in let a = c.args.self.a.now in
-    let b = c.args.self.b.now in let x = c.args.x in let p = c.args.place in let P = c.args.places.now in let S = c.args.sets.now in let r = c.requires in
+returns-then-has c = let F = c.args.self.now.functions.now in let a = c.args.self.now.a.now in
+    let b = c.args.self.now.b.now in let x = c.args.x in let p = c.args.place in let P = c.args.places.now in let S = c.args.sets.now in let r = c.requires in
     λ σ K.
     let n = next_term F a b p 0 K.first_short r.run in
     let g : Union (enc n.term) _ S c.set_at-gained.result = rw n.cut at c.set_at-gained.ensures in
@@ -17,8 +17,8 @@ returns-then-has c = let F = c.args.self.functions.now in let a = c.args.self.a.
     (c.has.ensures.0 (rw c.if-has.true tt)) r.way
 
 pub returns : goal.returns
-returns c = let F = c.args.self.functions.now in
-    let a = c.args.self.a.now in let b = c.args.self.b.now in let x = c.args.x in let p = c.args.place in let P = c.args.places.now in
+returns c = let F = c.args.self.now.functions.now in
+    let a = c.args.self.now.a.now in let b = c.args.self.now.b.now in let x = c.args.x in let p = c.args.place in let P = c.args.places.now in
     let S = c.args.sets.now in let r = c.requires in
     λ σ K.
     let n = next_term F a b p 0 K.first_short r.run in

@@ -7,12 +7,12 @@ use Rattle.terms.proofs.unifier.Atoms.sets_of.Goals as goal
 use Rattle.terms.proofs.unifier.Atoms.sets_of.Goals.{else-place-lt-NO_PLACE, then-place-lt-NO_PLACE}
 
 pub loop-x-init : goal.loop-x-init
-loop-x-init c = refilled_none c.args.self.functions.now c.args.self.a.now c.args.self.b.now c.args.places.now c.requires
+loop-x-init c = refilled_none c.args.self.now.functions.now c.args.self.now.a.now c.args.self.now.b.now c.args.places.now c.requires
 
 pub set_at-gained-requires : goal.set_at-gained-requires
 set_at-gained-requires c = let w = c.from.ensures in
     let l : c.from.result < 128 = rw w c.if-place-lt-NO_PLACE.true in (
-      whole_there c.args.self.functions.now c.args.self.a.now c.args.self.b.now c.args.places.now c.requires
+      whole_there c.args.self.now.functions.now c.args.self.now.a.now c.args.self.now.b.now c.args.places.now c.requires
           c.loop-x.x c.from.result (omega arith) w l,
       l,
       c.requires.first_short,
@@ -21,12 +21,12 @@ set_at-gained-requires c = let w = c.from.ensures in
 pub returns : goal.returns
 returns c = let l = c.loop-x in
     let e : l.x ≡ 32 = omega arith in
-    refilled_all c.args.self.functions.now c.args.self.a.now c.args.self.b.now c.args.places.now c.requires l.sets (rw e at l.invariant)
+    refilled_all c.args.self.now.functions.now c.args.self.now.a.now c.args.self.now.b.now c.args.places.now c.requires l.sets (rw e at l.invariant)
 
 pub loop-x-preserved : goal.loop-x-preserved
-loop-x-preserved c = let F = c.args.self.functions.now in
-    let a = c.args.self.a.now in
-    let b = c.args.self.b.now in
+loop-x-preserved c = let F = c.args.self.now.functions.now in
+    let a = c.args.self.now.a.now in
+    let b = c.args.self.now.b.now in
     let P = c.args.places.now in
     let l = c.loop-x in
     elim c.if-place-lt-NO_PLACE.branch [
