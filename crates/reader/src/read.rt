@@ -52,12 +52,13 @@ fn read_text(
 
 // "lent output past what was written is 0": one's own, and zeros behind it.
 fn hand<T: Copy>(lent: &mut [T], own: &[T], zero: T)
-    requires fits { length own.now ≤ length lent.old }
-    requires copies { T.is_infallible zero × ((y : T) → T.is_clone zero y → y ≡ zero) }
+    requires { length own.now ≤ length lent.old }
     ensures { lent.new ≡ own.now ++ replicate (length lent.old - length own.now) zero }
 {
-    lent[..own.len()].copy_from_slice(own);
-    lent[own.len()..].fill(zero);
+    // One by one: `copy_from_slice` would have the archive for C ask for `memcpy`.
+    for i in 0..lent.len() {
+        lent[i] = if i < own.len() { own[i] } else { zero };
+    }
 }
 
 // From a scenario text to an encoded program with its names: how many words, and every lent word after.

@@ -8,8 +8,13 @@ pub fn pad(s: &[u8]) -> [u8; 16]
     ensures { result ≡ padded s.now }
 {
     let mut key = [0u8; 16];
-    let end = s.len().min(NAME_BYTES);
-    key[..end].copy_from_slice(&s[..end]);
+    // Byte by byte: `copy_from_slice`, of a length that is not known, would have the archive for C ask for `memcpy`.
+    for i in 0..NAME_BYTES {
+        if s.len() <= i {
+            return key;
+        }
+        key[i] = s[i];
+    }
     key
 }
 
