@@ -78,8 +78,10 @@ fn taken(words: &mut [u16], line: Line, byte: u8) -> Line
 }
 
 impl<R: Read> Input<R> {
-    // Before the first line.
-    pub fn new(from: R) -> Input<R> {
+    // Before the first line: no byte is held.
+    pub fn new(from: R) -> Input<R>
+        ensures { (result.from ≡ from) × (result.at ≡ 0) × (result.end ≡ 0) }
+    {
         Input {
             from,
             buffer: [0; 4096],
