@@ -5,7 +5,8 @@ use mathlib.Core.Bool.{Bool, true, false, cond, ◌&&◌}
 use mathlib.Core.List.{List, [], append-nil}
 use native.Mathlib.Omega.{arith}
 use lib.ListN.{length, drop}
-use borrow.Author.Tests.{le-ltb}
+use lib.Dec.{eqb, ltb}
+use borrow.Author.Tests.{le-ltb, ltb-true}
 use Rattle.terms.specs.Cells.{variables}
 use Rattle.program.specs.Limits.{max_words}
 use Rattle.program.specs.Reply.{too_soon, follows, number_of}
@@ -148,3 +149,11 @@ module _ (front modes words : List ℕ) where
 
   pub as_right : {p : Progress} {ms out : List ℕ} (o : Read Row) → o ≡ right (row_of p ms out) → Stands p ms out front modes words → CellsAs front modes words (Ok p) o
   as_right {p = p} o e st = rw e (p, refl, refl, st)
+
+-- a complete atom is an atom
+pub complete_atoms : (p : Progress) → complete (row_of p [] []) ≡ true → 0 < p.atoms
+complete_atoms p e = go (eqb p.wanted 0) e
+  where
+    go : (t : Bool) → t && ltb 0 p.atoms ≡ true → 0 < p.atoms
+    go true e = ltb-true 0 p.atoms e
+    go false e = absurd (let z : ◌≡◌ {A = ℕ} 0 1 = cc in omega arith)

@@ -21,6 +21,9 @@ use Rattle.ends.specs.Ends.{WithHead}
 use Rattle.ends.proofs.ClauseRows.{first_index, end_after, last_suc}
 use Rattle.clauses.specs.Clauses.{MiddlesAsked, PastPlaces}
 
+pub none_over : {n room : ℕ} → room < n → n ≤ room → ⊥
+none_over over l = omega arith
+
 module _ (words dir table heads : List ℕ) (since rows k : ℕ) (w : HeadAsked words dir table heads since rows k)
     (start end : ℕ) (is-start : start ≡ get_or dir (clause_first + k) 0) (is-end : end ≡ get_or dir (clause_first + k + 1) 0) (some : 0 < length w.clause.c.body) where
   abbrev middles_asked : MiddlesAsked words dir table heads since rows start (end - 1)

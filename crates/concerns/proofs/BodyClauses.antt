@@ -39,6 +39,18 @@ module _ {words dir : List ℕ} {p : Program} (s : Setting words dir p) where
     body_first : j ≡ get_or dir (clause_first + b.k) 0 + b.i
     body_first = b.is ∙ ap (λ (x : ℕ). x + b.i) (sym (first_body s b.k (let l = nth_below b.nth_clause in omega arith)))
 
+    -- a clause that ends before the body atom is one before its clause
+    pub clause_later : (k : ℕ) → k ≤ b.k → get_or dir (clause_first + k + 1) 0 ≤ j → k + 1 ≤ b.k
+    clause_later k l h = at (dec_lt k b.k)
+      where
+        at : Dec (k < b.k) → k + 1 ≤ b.k
+        at (yes d) = omega arith
+        at (no d) =
+            let e : clause_first + k + 1 ≡ clause_first + suc b.k = omega arith in
+            let n = (s.directory.clause b.nth_clause).first_next in
+            let h' : get_or dir (clause_first + suc b.k) 0 ≤ j = rw e at h in
+            absurd (omega (arith, nth_below b.nth_atom, body_first))
+
     -- where the bodies end, the first that is behind the body atom is its clause's
     pub clause_position : position_or_len (λ (behind : ℕ). ltb j behind) (drop (clause_first + 1) dir) ≡ b.k
     clause_position =

@@ -3,8 +3,11 @@ use Prim.Native.Nat.{ℕ, ◌+◌, ◌<◌}
 use mathlib.Core.Path.{◌≡◌, refl, sym, ◌∙◌}
 use mathlib.Core.List.{List, [], ◌∷◌, ◌++◌}
 use native.Mathlib.Omega.{arith}
+use mathlib.Core.Bool.{Bool, true, false, ◌&&◌}
+use lib.Dec.{ltb}
+use borrow.Author.Tests.{ltb-true}
 use lib.ListN.{length, set, length-append}
-use Rattle.program.specs.Limits.{max_words}
+use Rattle.program.specs.Limits.{max_words, max_declared}
 use Rattle.text.specs.Room.{in_room}
 use Rattle.text.specs.Name.{max_names, padded}
 use Rattle.text.proofs.Rooms.{set_behind}
@@ -64,3 +67,11 @@ declaration_wrong t section from at ss w = w at _
 pub lined_wrong : (symbols : SymbolRoom) (words : List ℕ) (o : Read TextSoFar) (r : Result Lined Fault) {number place : ℕ} → reading_of r ≡ wrong number place → o ≡ wrong number place
     → LinedAs symbols words r (more_of o)
 lined_wrong symbols words o r f e = rw e f
+
+-- there is a predicate, and one more of the kind may come
+pub open_few : (predicates count : ℕ) → ltb 0 predicates && ltb count max_declared ≡ true → (0 < predicates) × (count < max_declared)
+open_few predicates count e = go (ltb 0 predicates) refl e
+  where
+    go : (t : Bool) → ltb 0 predicates ≡ t → t && ltb count max_declared ≡ true → (0 < predicates) × (count < max_declared)
+    go true f e = (ltb-true 0 predicates f, ltb-true count max_declared e)
+    go false f e = absurd (let z : ◌≡◌ {A = ℕ} 0 1 = cc in omega arith)

@@ -5,7 +5,7 @@ use native.Mathlib.Nat.{pow-le-pow_right}
 use mathlib.Core.Path.{◌≡◌, ap, ◌∙◌}
 use mathlib.Core.List.{List, [], ◌∷◌, reverse}
 use lib.ListN.{length, get_or, set, take, drop, length-set, length-drop}
-use lib.Seq.{take_all, get_or-set_same, get_or-set_other}
+use lib.Seq.{drop-cons, take_all, get_or-set_same, get_or-set_other}
 use Rattle.std.proofs.lemmas.List.{get_or-reverse}
 use Rattle.terms.specs.Cells.{variables, enc}
 use Rattle.program.specs.Shapes.{met}
@@ -29,6 +29,12 @@ each_at : {P : ℕ → Type 0} (l : List ℕ) (i d : ℕ) → Each P l → i < l
 each_at [] i d e h = absurd (omega arith)
 each_at (a ∷ l) zero d (more p e) h = p
 each_at (a ∷ l) (suc i) d (more p e) h = each_at l i d e (omega arith)
+
+-- one mode more
+pub mask_next : (modes : List ℕ) (i : ℕ) → 0 < i → i ≤ length modes → mask_of (drop (i - 1) modes) ≡ get_or modes (i - 1) 0 + 2 * mask_of (drop i modes)
+mask_next modes i some most =
+    let e : suc (i - 1) ≡ i = omega arith in
+    ap mask_of (drop-cons modes (i - 1) 0 (omega arith)) ∙ ap (λ (n : ℕ). get_or modes (i - 1) 0 + 2 * mask_of (drop n modes)) e
 
 -- room for the mask of one mode more
 pub mask_fits : (modes : List ℕ) (i : ℕ) → 0 < i → Each (λ m. m ≤ 1) modes → length modes ≤ variables → 2 * mask_of (drop i modes) + 1 < 65536

@@ -81,13 +81,13 @@ module _ (p : Program) (k : ℕ) (c : Clause) (before : List ℕ) where
   later_none i h = record { size = refl; kept = λ x l. refl; later = λ y l l'. absurd (omega arith) }
 
   module _ (dir : List ℕ) (i : ℕ) (w : Later p k c before dir (suc i)) (A : Term) (q : Nth c.body i A) (room : body_list + (first_of p k + i) < length dir) where
-    later_mask : (m n : ℕ) → Marks (λ v. In v (c.head ∷ drop (suc i) c.body)) m → Marks (λ v. Occ v A) n → Marks (λ v. In v (c.head ∷ drop i c.body)) (bit_or m n)
+    pub later_mask : (m n : ℕ) → Marks (λ v. In v (c.head ∷ drop (suc i) c.body)) m → Marks (λ v. Occ v A) n → Marks (λ v. In v (c.head ∷ drop i c.body)) (bit_or m n)
     later_mask m n h a = rw (nth_drop q) (atom_before c.head A (drop (suc i) c.body) m n h a)
 
     abbrev at : ℕ
     at = body_list + (first_of p k + i)
 
-    later_more : (m : ℕ) → Marks (λ v. In v (c.head ∷ drop i c.body)) m → Later p k c before (set dir at m) i
+    pub later_more : (m : ℕ) → Marks (λ v. In v (c.head ∷ drop i c.body)) m → Later p k c before (set dir at m) i
     later_more m h =
         record {
           size = length-set dir at m ∙ w.size;

@@ -1,7 +1,7 @@
--- Parts of a list: two that agree word by word are equal.
+-- Parts of a list: two that agree word by word are equal, and equal ones agree.
 use Prim.Native.Nat.{ℕ, ◌+◌, ◌≤◌, ◌<◌}
 use native.Mathlib.Omega.{arith}
-use mathlib.Core.Path.{◌≡◌, sym, ◌∙◌}
+use mathlib.Core.Path.{◌≡◌, sym, ap, ◌∙◌}
 use mathlib.Core.List.{List}
 use lib.ListN.{length, get_or, take, drop, length-drop}
 use lib.Seq.{ext_get_or, get_or-take, get_or-drop, length-take-le}
@@ -23,3 +23,6 @@ pub parts_same : (l m : List ℕ) (a b n : ℕ) → a + n ≤ length l → b + n
     → take n (drop a l) ≡ take n (drop b m)
 parts_same l m a b n h h' same =
     part_is l a n (take n (drop b m)) h (part_length m b n h') (λ i less. same i less ∙ sym (part_at m b n i less))
+
+pub same_parts : (l m : List ℕ) (a b n : ℕ) → take n (drop a l) ≡ take n (drop b m) → (i : ℕ) → i < n → get_or l (a + i) 0 ≡ get_or m (b + i) 0
+same_parts l m a b n e i h = sym (part_at l a n i h) ∙ ap (λ (k : List ℕ). get_or k i 0) e ∙ part_at m b n i h

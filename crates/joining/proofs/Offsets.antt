@@ -19,3 +19,10 @@ module _ (base : ℕ) {i most : ℕ} (h : i < most) (few : T (leb (base + most) 
 
 pub offset_within : (base : ℕ) {i most size n : ℕ} → i < most → n ≡ size → T (leb (base + most) size) → base + i < n
 offset_within base {most = most} {size = size} h e few = omega (arith, leb→le (base + most) size few)
+
+-- a word that is read is itself the number of a word
+pub word_bytes_fit : {a : ℕ} → a < most_word → Fits w64 (a * 2)
+word_bytes_fit h = omega arith
+
+pub words_fit : {a b : ℕ} → a < most_word → b < most_word → Fits w64 (a + b)
+words_fit h k = omega arith

@@ -3,7 +3,7 @@ use Prim.Native.Nat.{ℕ, zero, suc, ◌+◌, ◌*◌, ◌≤◌, ◌<◌}
 use native.Mathlib.Omega.{arith}
 use mathlib.Core.Path.{◌≡◌, refl, sym, ap, ap₂, ◌∙◌}
 use mathlib.Core.List.{List, [], ◌∷◌, ◌++◌, append_assoc, append-nil}
-use lib.ListN.{length, get_or, take, length-append}
+use lib.ListN.{length, get_or, take, drop, take-append-drop, length-append}
 use lib.Seq.{length-take-le}
 use Rattle.terms.specs.Term.{Term, var}
 use Rattle.program.specs.Program.{Nth, here, there, Program}
@@ -43,6 +43,11 @@ module _ (names : List ℕ) (predicates : ℕ) where
       ∙ ap (λ (n : ℕ). shape_lines names predicates 0 (take s l) ++ (shape_line names predicates n S ++ [])) e
       ∙ ap (λ (x : List ℕ). shape_lines names predicates 0 (take s l) ++ x) (append-nil (shape_line names predicates s S))
 
+  -- those still to come
+  pub shapes_rest : (s : ℕ) (l : List Term)
+      → shape_lines names predicates 0 (take s l) ++ shape_lines names predicates (0 + length (take s l)) (drop s l) ≡ shape_lines names predicates 0 l
+  shapes_rest s l = sym (shapes_append 0 (take s l) (drop s l)) ∙ ap (shape_lines names predicates 0) (take-append-drop s l)
+
   -- shape number s of them
   abbrev pub shape_text : List Term → ℕ → List ℕ
   shape_text l s = shape_line names predicates s (get_or l s (var 0))
@@ -65,6 +70,9 @@ module _ (p : Program) where
   rows_more {l} {r} {e} h =
       ap (row_lines p) (nth_take h) ∙ rows_append (take r l) (e ∷ [])
       ∙ ap (λ (x : List ℕ). row_lines p (take r l) ++ x) (append-nil (row_line p e.round e.row))
+
+  pub rows_rest : (r : ℕ) (l : List Entry) → row_lines p (take r l) ++ row_lines p (drop r l) ≡ row_lines p l
+  rows_rest r l = sym (rows_append (take r l) (drop r l)) ∙ ap (row_lines p) (take-append-drop r l)
 
   -- row number r of them
   abbrev pub row_text : List Entry → ℕ → List ℕ

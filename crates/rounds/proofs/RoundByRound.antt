@@ -159,6 +159,14 @@ module _ (words dir : List ℕ) (p : Program) (setting : Setting words dir p) wh
         at (new out h e g) = absurd (omega arith)
         at (full out h e t b) = rw (← h) (goal_more p)
 
+    pub no_room_by_one : room < r → r ≡ room + 1
+    no_room_by_one l = at added
+      where
+        at : Added table₀ buckets₀ 0 room 0 0 mask r table buckets → r ≡ room + 1
+        at (there m e t b) = absurd (Memᴰ.not-nil m)
+        at (new out h e g) = absurd (omega arith)
+        at (full out h e t b) = e
+
     pub round_zero_there : r ≤ room → room ≤ max_rows → row_size * room ≤ length table → heads ≡ replicate slots 0 → Rounding p table buckets heads room 0 r 1
     round_zero_there l most fits none = at added
       where

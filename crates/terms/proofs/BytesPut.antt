@@ -1,10 +1,10 @@
 -- Words and sets in bytes: as they are put, as they stay, and bytes put behind others.
-use Prim.Native.Nat.{ℕ, ◌+◌, ◌*◌, ◌^◌, ◌≤◌, ◌<◌}
+use Prim.Native.Nat.{ℕ, ◌+◌, ◌*◌, ◌/◌, ◌%◌, ◌^◌, ◌≤◌, ◌<◌}
 use native.Mathlib.Omega.{arith}
 use mathlib.Core.Path.{◌≡◌, refl, ◌∙◌}
 use mathlib.Core.List.{List}
 use lib.ListN.{length, get_or, set, length-set}
-use lib.Seq.{get_or-set_other}
+use lib.Seq.{get_or-set_same, get_or-set_other}
 use borrow.Rule.Slice.PartMut.{put_mid}
 use Rattle.std.proofs.Common.{rules, w16, w32}
 use Rattle.std.specs.Int.{to_le_bytes}
@@ -48,6 +48,30 @@ byte_put bytes i b =
       earlier = λ j l. get_or-set_other bytes i j b 0 (λ e. omega arith);
       later = λ j l. get_or-set_other bytes i j b 0 (λ e. omega arith);
     }
+
+-- the two bytes of a word
+module _ (bytes : List ℕ) (i word : ℕ) (there : i + 2 ≤ length bytes) where
+  abbrev low_put : List ℕ
+  low_put = set bytes i (word % 256)
+
+  pub bytes_are_word : WordPut bytes (set (set bytes i (word % 256)) (i + 1) (word / 256)) i word
+  bytes_are_word =
+      record {
+        put = put_then (byte_put bytes i (word % 256)) (byte_put low_put (i + 1) (word / 256)) refl refl;
+        is = omega (
+          arith,
+          word_is (set low_put (i + 1) (word / 256)) i,
+          get_or-set_same bytes i (word % 256) 0 (omega arith),
+          (byte_put low_put (i + 1) (word / 256)).earlier i (omega arith),
+          get_or-set_same low_put (i + 1) (word / 256) 0 (omega (arith, length-set bytes i (word % 256))),
+        );
+      }
+
+-- the two words of a set
+pub words_are_set : {before bytes after : List ℕ} {i set : ℕ} → WordPut before bytes i (set % 65536) → WordPut bytes after (i + 2) (set / 65536) → SetPut before after i set
+words_are_set {before} {bytes} {after} {i} {set} p q =
+    let low : word_at after i ≡ word_at bytes i = word_stays bytes after i (λ j l h. q.put.earlier j h) in
+    record { put = put_then p.put q.put refl refl; is = omega (arith, set_is after i, p.is, q.is) }
 
 -- a part of the bytes, as `bytes[i..i + n].copy_from_slice(part)` puts it
 part_put : (bytes part : List ℕ) (i k : ℕ) → i + k ≤ length bytes → length part ≡ k → BytesPut bytes (put_mid i k bytes part) i k

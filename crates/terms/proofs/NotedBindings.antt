@@ -14,7 +14,7 @@ use Rattle.terms.specs.Mask.{Has, Marks}
 use Rattle.terms.specs.Store.{all_variables, no_place, bound, Stands}
 use Rattle.terms.specs.Unified.{Unified}
 use Rattle.terms.specs.Bytes.{noted_set, SetPut}
-use Rattle.terms.specs.Noted.{IsBound, Coded, PlacesPut, noted_size, NotedAt, noted_end, BindingsPut}
+use Rattle.terms.specs.Noted.{IsBound, count_of, Coded, PlacesPut, noted_size, NotedAt, noted_end, BindingsPut, BindingsTaken}
 use Rattle.terms.proofs.Masks.{has_decided, marks_unique}
 use Rattle.terms.proofs.Joining.{stands_once}
 use Rattle.terms.proofs.Parts.{same_inside}
@@ -40,6 +40,12 @@ bindings_put {places} {before} {marked} {after} {at} {s} m set put =
   where
     is : noted_set after at ≡ s
     is = set_stays marked after at (λ j l h. put.put.earlier j (omega arith)) ∙ set.is
+
+-- the set is read, and the places behind it
+pub bindings_taken : {bytes places : List ℕ} {at s r : ℕ} → s ≡ noted_set bytes at → r ≡ at + 4 + count_of s all_variables → length places ≡ all_variables
+    → Coded bytes places s (at + 4) all_variables → BindingsTaken bytes places at r
+bindings_taken {bytes} {places} {at} {s} {r} is end size c =
+    record { all_places = size; noted = record { coded = rw is at c }; ends = let e : r ≡ at + noted_size s = omega arith in rw is at e }
 
 -- the bindings of a store are those of every list that has the same places: a place that is none says nothing but that its variable is unbound
 abbrev AsPlaces : ℕ → ℕ → Type 0

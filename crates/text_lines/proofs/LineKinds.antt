@@ -5,6 +5,8 @@ use mathlib.Core.Bool.{Bool, true, false, cond}
 use mathlib.Core.List.{List, ◌∷◌}
 use native.Mathlib.Omega.{arith}
 use lib.ListN.{length, drop, length-take}
+use Rattle.std.specs.Prelude.{Result, Ok, Err}
+use Rattle.program.specs.declared.reply.Fault.{Fault}
 use Rattle.program.specs.Reply.{ill_formed}
 use Rattle.program.specs.Lists.{between}
 use Rattle.text.specs.Line.{up_to, parts, behind, tab}
@@ -15,9 +17,11 @@ use Rattle.text_lines.specs.declared.keyword.Kind.{Kind}
 use Rattle.text_lines.specs.declared.keyword.Kind.TheVariants.{Pred, Func, Clause, Query, Other}
 use Rattle.text_lines.specs.Keyword.{pred, func, clause, query, kind_of}
 use Rattle.cells.specs.TextSoFar.{TextSoFar, wrong}
+use Rattle.declarations.specs.declared.lined.Lined.{Lined}
+use Rattle.declarations.specs.declared.lined.Lined.TheVariants.{More, Last}
 use Rattle.declarations.specs.Declarations.{declaring, pred_line, func_line}
 use Rattle.text_lines.specs.Lines.{clause_line, query_line, line_of, fields_of}
-use Rattle.declarations.specs.Held.{more_of}
+use Rattle.declarations.specs.Held.{more_of, Goes}
 use Rattle.text_lines.specs.Goal.{last_of}
 
 abbrev pub KindIs : List ℕ → Kind → Type 0
@@ -90,3 +94,9 @@ module _ (line : List ℕ) (e : ℕ) (ends : e ≡ 0 + length (up_to tab (drop 0
 
     pub line_other : kind_of keyword ≡ Other → fields_of t base (parts tab line) ≡ wrong ill_formed base
     line_other f = by_kind f
+
+-- what keeps to a limit keeps to a larger one
+pub goes_less : (most more : ℕ) (r : Result Lined Fault) → most ≤ more → Goes most r → Goes more r
+goes_less most more (Err fault) h g = tt
+goes_less most more (Ok (More c)) h g = (g.0, omega (arith, g.1))
+goes_less most more (Ok (Last sizes)) h g = tt

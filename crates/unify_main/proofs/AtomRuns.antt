@@ -9,9 +9,11 @@ use lib.ListN.{length, get_or, drop, length-drop}
 use lib.Seq.{drop-length}
 use Rattle.std.proofs.lemmas.List.{drop_more}
 use Rattle.terms.specs.Term.{Terms, var, app, nil, cons, count, join}
-use Rattle.terms.specs.Cells.{first_variable, variables, atom_cells, enc, encs, Keepss, take_terms, drop_terms}
+use Rattle.terms.specs.Cells.{first_variable, variables, atom_cells, enc, encs, Keepss, take_terms, drop_terms, Run}
+use Rattle.terms.specs.Store.{no_place, cells_at}
 use Rattle.terms.specs.Walk.{Cells}
 use Rattle.terms.specs.Unified.{Unification}
+use Rattle.terms.proofs.Parts.{same_inside}
 use Rattle.terms.proofs.Runs.{encs_split, count_take, count_drop, keeps_take, keeps_drop}
 use Rattle.terms.proofs.Steps.{behind, behind_cons, encs_join, keeps_join, count_join, cells_many}
 use Rattle.terms.proofs.RunVariables.{cells_encs}
@@ -162,3 +164,10 @@ pub unified_bindings : (P F a b : List ℕ) → AtomRun P F a → AtomRun P F b 
 unified_bindings P F a b u w r places sets e o =
     let g = rw e at (o u.term w.term u.is w.is u.atom w.atom) in
     record { all_places = g.all_places; whole = g.whole }
+
+-- the place that is read for a bound variable is that of a whole term
+pub binding_whole : (F a b places : List ℕ) → WholeBindings F a b places → (x p : ℕ) → x < 32 → p ≡ get_or places x 0 → p < no_place
+    → Run F (cells_at a b p) 1
+binding_whole F a b places w x p s e h =
+    let q : p ≡ get_or places x no_place = e ∙ same_inside places x 0 no_place (omega (arith, w.all_places)) in
+    rw q (w.whole x (omega arith))
